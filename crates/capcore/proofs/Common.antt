@@ -88,7 +88,7 @@ pub use Rattle.capstep.specs.Direct.{Awaits, Direct, DirectReply, Gives, IsDirec
 pub use Rattle.capstep.specs.Direct.{owned_by, reply_of, says, shown, with_birth, with_flush, with_scene, with_table}
 pub use Rattle.capstep.specs.Finish.{finished, is_sized, owed, sizes_owed}
 pub use Rattle.capstep.specs.Headline.{AreBounded, IssuesExactly, ServedDenied, is_rejection, move_of}
-pub use Rattle.capstep.specs.History.{HasNoStray, IsOpening, IsRecorded, Recorded, Replays, recorded}
+pub use Rattle.capstep.specs.History.{CoreValue, HasNoStray, IsLegalCore, IsOpening, Replays, core_value}
 pub use Rattle.capstep.specs.Judge.{after, arrival_tests, basic_tests, before, first_denied, judged, needs, rejection_by, rejection_of, rejection_reply}
 pub use Rattle.capstep.specs.Judge.{revoked_of, waiting_tests}
 pub use Rattle.capstep.specs.Messages.{after_messages, first_messages, with_given}

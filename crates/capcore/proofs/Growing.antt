@@ -1,8 +1,8 @@
 -- A legal history goes on by one row.
 use Rattle.std.proofs.Common.{◌≡◌, ℕ, ◌+◌, ◌<◌, ◌≤◌, List, [], ◌∷◌, ◌++◌, length, Some, None, refl, sym, ap, subst, ◌∙◌, arith}
 use Rattle.capstep.proofs.Numbered.{numbered-nil, numbered-snoc}
-use Rattle.capcore.proofs.Common.{AreGiven, HasNoStray, IsOpening, IsRecorded, IsSound, IsTable, Nodes, Recorded, Replays, Row, State, Step, ViewChange}
-use Rattle.capcore.proofs.Common.{entry_at, recorded, rows_of, step-shown}
+use Rattle.capcore.proofs.Common.{AreGiven, CoreValue, HasNoStray, IsLegalCore, IsOpening, IsSound, IsTable, Nodes, Replays, Row, State, Step, ViewChange}
+use Rattle.capcore.proofs.Common.{core_value, entry_at, rows_of, step-shown}
 use Rattle.capcore.proofs.Sounding.{opening-given, opening-sound}
 
 pub replays-more : (first : State) (rows : List Row) (old : State) (row : Row) (new : State) → Replays first rows old → Step old row.event row.reply row.ended new → Replays first (rows ++ row ∷ []) new
@@ -14,8 +14,8 @@ length-more [] row = refl
 length-more (r ∷ rows) row = let more = length-more rows row in omega (arith, more)
 
 -- a new core has the empty history
-pub first-recorded : (fs : List ℕ) (tree : Nodes) (s : State) (max_rows : ℕ) (changes : List ViewChange) → HasNoStray tree → IsOpening fs tree s → IsRecorded (recorded s [] max_rows changes)
-first-recorded fs tree s max_rows changes none is = record {
+pub first-legal : (fs : List ℕ) (tree : Nodes) (s : State) (max_rows : ℕ) (changes : List ViewChange) → HasNoStray tree → IsOpening fs tree s → IsLegalCore (core_value s [] max_rows changes)
+first-legal fs tree s max_rows changes none is = record {
   fs = fs;
   tree = tree;
   no_strays = none;
@@ -32,9 +32,9 @@ pub given-more : (rows : List Row) (row : Row) (new : State) → AreGiven (lengt
 given-more rows row new = subst (λ n. AreGiven n new) (sym (length-more rows row))
 
 -- one step more, with its row, to a state that is sound
-pub more-recorded : (t : Recorded) (row : Row) (new : State) (changes : List ViewChange) → IsRecorded t → Step t.state row.event row.reply row.ended new → row.nth ≡ rows_of row.pass t.rows + 1 → length t.rows < t.max_rows → IsTable t.state.scene.table → IsSound new → AreGiven (length t.rows + 1) new →
-    IsRecorded (recorded new (t.rows ++ row ∷ []) t.max_rows changes)
-more-recorded t row new changes is step nth less table sound given = record {
+pub more-legal : (t : CoreValue) (row : Row) (new : State) (changes : List ViewChange) → IsLegalCore t → Step t.state row.event row.reply row.ended new → row.nth ≡ rows_of row.pass t.rows + 1 → length t.rows < t.max_rows → IsTable t.state.scene.table → IsSound new → AreGiven (length t.rows + 1) new →
+    IsLegalCore (core_value new (t.rows ++ row ∷ []) t.max_rows changes)
+more-legal t row new changes is step nth less table sound given = record {
   fs = is.fs;
   tree = is.tree;
   no_strays = is.no_strays;

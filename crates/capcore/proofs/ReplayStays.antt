@@ -4,7 +4,7 @@ use Rattle.std.proofs.lemmas.Simd.{map-map}
 use Rattle.captable.proofs.Tables.{IsTable-changed, IsTable-empty, IsTable-rows}
 use Rattle.capcore.specs.declared.entry_request.EntryRequest.TheVariants.{Open, Want}
 use Rattle.capcore.proofs.Bounded.{direct-keeps, found-keeps}
-use Rattle.capcore.proofs.Common.{Ack, DirectReply, Ended, Event, Gives, IsLockMap, IsRecorded, IsTable, IsTable-recalled, IsTable-without_client, Recorded}
+use Rattle.capcore.proofs.Common.{Ack, CoreValue, DirectReply, Ended, Event, Gives, IsLegalCore, IsLockMap, IsTable, IsTable-recalled, IsTable-without_client}
 use Rattle.capcore.proofs.Common.{Release, Replays, Reply, Row, Scene, Shows, State, Step, after_messages, child, direct, effect, finished, first_messages}
 use Rattle.capcore.proofs.Common.{holder, is_of_client, is_sized, judged, moved-all, owed, request-table, shown, sized_in, sizes_owed, state_after}
 use Rattle.capcore.proofs.Common.{table-where, with_told}
@@ -42,16 +42,16 @@ step-table old e a xs new (moves, by) table =
     (shown-table (direct old e).reply_due (state_after old (direct old e) moves by.settled)
     (finished-table old.scene first (sizes_owed (sized_in moves) by.settled) (table-where (is_sized (sized_in moves)) owed by.settled.table settled)))
 
--- ---- all that is kept
+-- ---- rows and requests in order
 
-abbrev pub IsKept : State → Type 0
-IsKept s = IsTable s.scene.table × IsLockMap s.scene.locks
+abbrev pub IsInOrder : State → Type 0
+IsInOrder s = IsTable s.scene.table × IsLockMap s.scene.locks
 
-replays-stay : (first last : State) (rows : List Row) → Replays first rows last → IsKept first → IsKept last
-replays-stay first last [] is kept = subst IsKept (sym is) kept
+replays-stay : (first last : State) (rows : List Row) → Replays first rows last → IsInOrder first → IsInOrder last
+replays-stay first last [] is order = subst IsInOrder (sym is) order
 replays-stay first last (r ∷ rows) (mid, step, rest) (table, locks) =
     replays-stay mid last rows rest (step-table first r.event r.reply r.ended mid step table, step-order first r.event locks r.reply r.ended mid step)
 
-pub recorded-stays : (t : Recorded) → IsRecorded t → IsKept t.state
-recorded-stays t is =
+pub legal_core-in_order : (t : CoreValue) → IsLegalCore t → IsInOrder t.state
+legal_core-in_order t is =
     replays-stay is.opening t.state t.rows is.legal.replays (subst IsTable (sym is.is_opening.table_is) IsTable-empty, opening-order is.fs is.tree is.opening is.is_opening)

@@ -7,7 +7,7 @@ use Rattle.captable.specs.Codes as entries
 use Rattle.sessiontab.specs.Table.{SessionTable, table_code}
 use Rattle.capstep.specs.declared.outcome.Ended.{Ended}
 use Rattle.capstep.specs.declared.row.Row.{Row}
-use Rattle.capstep.specs.History.{Recorded, recorded}
+use Rattle.capstep.specs.History.{CoreValue, core_value}
 use Rattle.capstep.specs.State.{State}
 use Rattle.policy_view.specs.declared.change.ViewChange.{ViewChange}
 use Rattle.lockmachine.specs.Codes.{lock_map_code}
@@ -32,8 +32,8 @@ state_code =
     (λ s. (s.scene, s.messages)) (λ p. record { scene = p.0; messages = p.1 }) (λ _. refl)
 
 -- and with its history, and what the last step changed
-abbrev pub recorded_code : Coded Recorded
-recorded_code =
+abbrev pub core_code : Coded CoreValue
+core_code =
     code_by (State × (List Row × (ℕ × List ViewChange)))
     (coded× state_code (coded× (coded_list history_row.the_row.coded) (coded× coded_ℕ (coded_list view_change.the_row.coded))))
-    (λ t. (t.state, (t.rows, (t.max_rows, t.changes)))) (λ p. recorded p.0 p.1.0 p.1.1.0 p.1.1.1) (λ _. refl)
+    (λ t. (t.state, (t.rows, (t.max_rows, t.changes)))) (λ p. core_value p.0 p.1.0 p.1.1.0 p.1.1.1) (λ _. refl)

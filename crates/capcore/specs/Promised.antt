@@ -6,7 +6,7 @@ use Rattle.capstep.specs.declared.event.Event.{Event}
 use Rattle.capstep.specs.declared.reply.Reply.{Reply}
 use Rattle.capstep.specs.Direct.{begun}
 use Rattle.capstep.specs.Headline.{AreBounded, AreInPlace, AreRevoked, DeniedExactly, IssuesExactly, NoneConflict, OtherLocksStay, ServedDenied, is_rejection}
-use Rattle.capstep.specs.History.{IsNext, Recorded, Replays}
+use Rattle.capstep.specs.History.{CoreValue, IsNext, Replays}
 use Rattle.capstep.specs.Noted.{view_of}
 use Rattle.capstep.specs.Shown.{ShowsOnlyPermitted, ShowsWhatIsPending, TakesOnlySo, TakesUnshown}
 use Rattle.capstep.specs.Sound.{IsSound}
@@ -14,7 +14,7 @@ use Rattle.capstep.specs.State.{State}
 use Rattle.policy_view.specs.Changes.{AreChanges}
 use Rattle.lockmachine.specs.Moves.{IsAtRest}
 
-pub record IsPromised (old : Recorded) (pass : PassId) (event : Event) (reply : Reply) (new : Recorded) : Type 0 where
+pub record IsPromised (old : CoreValue) (pass : PassId) (event : Event) (reply : Reply) (new : CoreValue) : Type 0 where
   -- one step of the rules, and one row. What is said of moves below is said of those that make this step
   pub next : IsNext old pass event reply new
   -- a request is denied exactly if it passes the tests that stand before policy and an access that it needs has no grant, and each

@@ -3,7 +3,7 @@ ghost use Rattle.std.specs.Option.{option_copied};
 ghost use Rattle.std.specs.Prelude.{◌≡◌, ◌↔◌, ◌<◌, [], length, Err, IfOk, OnErr};
 ghost use Rattle.std.specs.FinMap as map;
 ghost use Rattle.captable.specs.Table.{entry_at, holder};
-ghost use Rattle.capstep.specs.History.{HasNoStray, IsOpening, IsRecorded};
+ghost use Rattle.capstep.specs.History.{HasNoStray, IsLegalCore, IsOpening};
 ghost use Rattle.lockmachine.specs.Locks.{lock_at};
 ghost use Rattle.capstep.specs.declared.stop.Stop.TheVariants as stop_kind;
 ghost use Rattle.capcore.specs.Promised.{IsPromised};
@@ -35,16 +35,16 @@ pub struct Core {
 }
 
 impl Model for Core {
-    ghost use Rattle.capstep.specs.History.{IsRecorded, Recorded, recorded};
-    ghost use Rattle.capcore.specs.Codes.{recorded_code};
+    ghost use Rattle.capstep.specs.History.{CoreValue, IsLegalCore, core_value};
+    ghost use Rattle.capcore.specs.Codes.{core_code};
 
-    ghost Value = { Recorded };
+    ghost Value = { CoreValue };
 
-    ghost coded = { recorded_code };
+    ghost coded = { core_code };
 
-    ghost view = { λ c. recorded c.world c.rows.items c.max_rows c.output.changes.items };
+    ghost view = { λ c. core_value c.world c.rows.items c.max_rows c.output.changes.items };
 
-    ghost invariant = { λ c. IsRecorded (recorded c.world c.rows.items c.max_rows c.output.changes.items) };
+    ghost invariant = { λ c. IsLegalCore (core_value c.world c.rows.items c.max_rows c.output.changes.items) };
 }
 
 // Not derived: so the proof of a function that drops one has a single call there, and no step for each part.
@@ -140,7 +140,7 @@ impl Core {
     pub fn history(&self) -> &[Row]
         ensures rows { result.now ≡ self.now.rows }
         // It is legal, and leads to the state that the other calls show, which is sound.
-        ensures recorded { IsRecorded self.now }
+        ensures legal { IsLegalCore self.now }
     {
         self.rows.as_slice()
     }

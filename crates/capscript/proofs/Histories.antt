@@ -10,7 +10,7 @@ use Rattle.inotree.specs.Calls.{first_tree}
 use Rattle.capstep.specs.declared.event.Event.{Event}
 use Rattle.capstep.specs.declared.row.Row.{Row}
 use Rattle.capstep.specs.Numbers.{AreNumbered, rows_of}
-use Rattle.capstep.specs.History.{IsOpening, Recorded, Replays}
+use Rattle.capstep.specs.History.{CoreValue, IsOpening, Replays}
 use Rattle.capbits.specs.declared.ids.ClientId.{ClientId}
 use Rattle.capexplain.specs.Events.{Reads}
 use Rattle.capexplain.specs.Faults.{IsStop}
@@ -62,14 +62,14 @@ say_more before events line event say reads = record {
 
 -- ---- a script that ran so far
 
-pub record Runs (first : Recorded) (before : List (List ℕ)) (now : Recorded) : Type 0 where
+pub record Runs (first : CoreValue) (before : List (List ℕ)) (now : CoreValue) : Type 0 where
   pub replays : Replays first.state now.rows now.state
   pub numbered : AreNumbered now.rows
   pub say : LinesSay before (map (λ (row : Row). row.event) now.rows)
   pub few : length now.rows ≤ length before
   pub room : now.max_rows ≡ first.max_rows
 
-pub runs_none : (first : Recorded) → first.rows ≡ [] → Runs first [] first
+pub runs_none : (first : CoreValue) → first.rows ≡ [] → Runs first [] first
 runs_none first none = record {
   replays = subst (λ (rows : List Row). Replays first.state rows first.state) (sym none) refl;
   numbered = subst (λ (rows : List Row). AreNumbered rows) (sym none) numbered-nil;
@@ -78,7 +78,7 @@ runs_none first none = record {
   room = refl;
 }
 
-pub runs_skipped : (first now : Recorded) (before : List (List ℕ)) (line : List ℕ) → Runs first before now → IsTrue (is_skipped line) → Runs first (before ++ line ∷ []) now
+pub runs_skipped : (first now : CoreValue) (before : List (List ℕ)) (line : List ℕ) → Runs first before now → IsTrue (is_skipped line) → Runs first (before ++ line ∷ []) now
 runs_skipped first now before line ran skipped = record {
   replays = ran.replays;
   numbered = ran.numbered;
@@ -87,7 +87,7 @@ runs_skipped first now before line ran skipped = record {
   room = ran.room;
 }
 
-pub runs_more : (first now next : Recorded) (before : List (List ℕ)) (line text : List ℕ) (event : Event) → Runs first before now → Reads line event → Answers now event next text → Runs first (before ++ line ∷ []) next
+pub runs_more : (first now next : CoreValue) (before : List (List ℕ)) (line text : List ℕ) (event : Event) → Runs first before now → Reads line event → Answers now event next text → Runs first (before ++ line ∷ []) next
 runs_more first now next before line text event ran reads answered =
     let is = answered.next in
     let row : Row = record { pass = record { 0 = 1 }; nth = rows_of (record { 0 = 1 }) now.rows + 1; event = event; reply = answered.reply; ended = is.ended } in
@@ -99,13 +99,13 @@ runs_more first now next before line text event ran reads answered =
       room = is.max_rows ∙ ran.room;
     }
 
-pub texts_more : (now next : Recorded) (event : Event) (text : List ℕ) → Answers now event next text → replies_text next.rows ≡ replies_text now.rows ++ text
+pub texts_more : (now next : CoreValue) (event : Event) (text : List ℕ) → Answers now event next text → replies_text next.rows ≡ replies_text now.rows ++ text
 texts_more now next event text answered =
     let is = answered.next in
     let row : Row = record { pass = record { 0 = 1 }; nth = rows_of (record { 0 = 1 }) now.rows + 1; event = event; reply = answered.reply; ended = is.ended } in
     ap replies_text is.rows ∙ flat_map-append (λ (r : Row). reply_text r.reply) now.rows (row ∷ []) ∙ ap (λ (t : List ℕ). replies_text now.rows ++ t) (append-nil (reply_text answered.reply) ∙ sym answered.text_is)
 
-pub transcript_of : (first now : Recorded) (before : List (List ℕ)) → IsOpening fs_name (first_tree root_attr) first.state → Runs first before now → IsTranscript before (replies_text now.rows)
+pub transcript_of : (first now : CoreValue) (before : List (List ℕ)) → IsOpening fs_name (first_tree root_attr) first.state → Runs first before now → IsTranscript before (replies_text now.rows)
 transcript_of first now before opens ran = record {
   opening = first.state;
   rows = now.rows;
@@ -117,7 +117,7 @@ transcript_of first now before opens ran = record {
 }
 
 -- what is known when so many lines were answered
-pub record SoFar (first now : Recorded) (script rest : List ℕ) (number : ℕ) (old new : Option (List ℕ)) : Type 0 where
+pub record SoFar (first now : CoreValue) (script rest : List ℕ) (number : ℕ) (old new : Option (List ℕ)) : Type 0 where
   pub before : List (List ℕ)
   pub order : lines script ≡ before ++ lines rest
   pub number_is : number ≡ length before + 1
@@ -125,7 +125,7 @@ pub record SoFar (first now : Recorded) (script rest : List ℕ) (number : ℕ) 
   pub ran : Runs first before now
   pub written : Appends old new (replies_text now.rows)
 
-pub so_far_none : (first : Recorded) (script : List ℕ) (known : Option (List ℕ)) → first.rows ≡ [] → SoFar first first script script 1 known known
+pub so_far_none : (first : CoreValue) (script : List ℕ) (known : Option (List ℕ)) → first.rows ≡ [] → SoFar first first script script 1 known known
 so_far_none first script known none = record {
   before = [];
   order = refl;
@@ -138,19 +138,19 @@ so_far_none first script known none = record {
 longer : (before : List (List ℕ)) (line : List ℕ) (all script rest : List (List ℕ)) → script ≡ before ++ all → all ≡ line ∷ rest → script ≡ (before ++ line ∷ []) ++ rest
 longer before line all script rest order next = order ∙ ap (λ (t : List (List ℕ)). before ++ t) next ∙ sym (append_assoc before (line ∷ []) rest)
 
-texts_same : (now next : Recorded) (text : List ℕ) → next ≡ now → text ≡ [] → replies_text now.rows ++ text ≡ replies_text next.rows
-texts_same now next text same none = ap (λ (t : List ℕ). replies_text now.rows ++ t) none ∙ append-nil (replies_text now.rows) ∙ ap (λ (t : Recorded). replies_text t.rows) (sym same)
+texts_same : (now next : CoreValue) (text : List ℕ) → next ≡ now → text ≡ [] → replies_text now.rows ++ text ≡ replies_text next.rows
+texts_same now next text same none = ap (λ (t : List ℕ). replies_text now.rows ++ t) none ∙ append-nil (replies_text now.rows) ∙ ap (λ (t : CoreValue). replies_text t.rows) (sym same)
 
 -- after a line
-runs_line : (first now next : Recorded) (before : List (List ℕ)) (line text : List ℕ) → Runs first before now → AnswersLine now line next text → Runs first (before ++ line ∷ []) next
-runs_line first now next before line text ran (inl skipped) = subst (λ (t : Recorded). Runs first (before ++ line ∷ []) t) (sym skipped.1) (runs_skipped first now before line ran skipped.0)
+runs_line : (first now next : CoreValue) (before : List (List ℕ)) (line text : List ℕ) → Runs first before now → AnswersLine now line next text → Runs first (before ++ line ∷ []) next
+runs_line first now next before line text ran (inl skipped) = subst (λ (t : CoreValue). Runs first (before ++ line ∷ []) t) (sym skipped.1) (runs_skipped first now before line ran skipped.0)
 runs_line first now next before line text ran (inr said) = runs_more first now next before line text said.0 ran said.1 said.2
 
-texts_line : (now next : Recorded) (line text : List ℕ) → AnswersLine now line next text → replies_text now.rows ++ text ≡ replies_text next.rows
+texts_line : (now next : CoreValue) (line text : List ℕ) → AnswersLine now line next text → replies_text now.rows ++ text ≡ replies_text next.rows
 texts_line now next line text (inl skipped) = texts_same now next text skipped.1 skipped.2
 texts_line now next line text (inr said) = sym (texts_more now next said.0 text said.2)
 
-pub so_far_more : (first now next : Recorded) (script rest line behind text : List ℕ) (number : ℕ) (old mid new : Option (List ℕ)) → SoFar first now script rest number old mid → lines rest ≡ line ∷ lines behind → length behind < length rest
+pub so_far_more : (first now next : CoreValue) (script rest line behind text : List ℕ) (number : ℕ) (old mid new : Option (List ℕ)) → SoFar first now script rest number old mid → lines rest ≡ line ∷ lines behind → length behind < length rest
     → AnswersLine now line next text → Appends mid new text → SoFar first next script behind (number + 1) old new
 so_far_more first now next script rest line behind text number old mid new so cut shorter answered appended = record {
   before = so.before ++ line ∷ [];
@@ -162,7 +162,7 @@ so_far_more first now next script rest line behind text number old mid new so cu
 }
 
 -- a line stops the script
-pub stopped : (T : Type 0) (first now next : Recorded) (script rest line text : List ℕ) (after : List (List ℕ)) (number : ℕ) (old mid new : Option (List ℕ)) (fault : ScriptFault) → IsOpening fs_name (first_tree root_attr) first.state → SoFar first now script rest number old mid
+pub stopped : (T : Type 0) (first now next : CoreValue) (script rest line text : List ℕ) (after : List (List ℕ)) (number : ℕ) (old mid new : Option (List ℕ)) (fault : ScriptFault) → IsOpening fs_name (first_tree root_attr) first.state → SoFar first now script rest number old mid
     → lines rest ≡ line ∷ after → StopsIn now number line fault next text → Appends mid new text → (t : List ℕ) × Answered {T = T} (lines script) (Err fault) t × Appends old new t
 stopped T first now next script rest line text after number old mid new (stops.LineFault at kind) opens so cut why appended = (
   replies_text now.rows,
@@ -191,13 +191,13 @@ stopped T first now next script rest line text after number old mid new stops.Wr
 stopped T first now next script rest line text after number old mid new stops.ReadFault opens so cut why appended = absurd why
 
 -- the same, by the answer that tells of it
-pub stopped_by : (T : Type 0) (first now next : Recorded) (script rest line : List ℕ) (after : List (List ℕ)) (number : ℕ) (old mid new : Option (List ℕ)) (fault : ScriptFault) (result : Result T ScriptFault) → IsErrAnd result (λ reported. reported ≡ fault)
+pub stopped_by : (T : Type 0) (first now next : CoreValue) (script rest line : List ℕ) (after : List (List ℕ)) (number : ℕ) (old mid new : Option (List ℕ)) (fault : ScriptFault) (result : Result T ScriptFault) → IsErrAnd result (λ reported. reported ≡ fault)
     → IsOpening fs_name (first_tree root_attr) first.state → SoFar first now script rest number old mid → lines rest ≡ line ∷ after → (text : List ℕ) × StopsIn now number line fault next text × Appends mid new text → (t : List ℕ) × Answered (lines script) result t × Appends old new t
 stopped_by T first now next script rest line after number old mid new fault (Ok done) reported opens so cut why = absurd reported
 stopped_by T first now next script rest line after number old mid new fault (Err same) reported opens so cut why = rw reported (stopped T first now next script rest line why.0 after number old mid new fault opens so cut why.1 why.2)
 
 -- the last line
-pub last_line : (T : Type 0) (first now next : Recorded) (script rest line : List ℕ) (number : ℕ) (old mid new : Option (List ℕ)) (result : Result T ScriptFault) → IsOpening fs_name (first_tree root_attr) first.state → SoFar first now script rest number old mid → lines rest ≡ line ∷ []
+pub last_line : (T : Type 0) (first now next : CoreValue) (script rest line : List ℕ) (number : ℕ) (old mid new : Option (List ℕ)) (result : Result T ScriptFault) → IsOpening fs_name (first_tree root_attr) first.state → SoFar first now script rest number old mid → lines rest ≡ line ∷ []
     → OnOk result ((text : List ℕ) × AnswersLine now line next text × Appends mid new text) → IfErr result (λ fault. (text : List ℕ) × StopsIn now number line fault next text × Appends mid new text) → (t : List ℕ) × Answered (lines script) result t × Appends old new t
 last_line T first now next script rest line number old mid new (Ok done) opens so cut ok err =
     let all : so.before ++ line ∷ [] ≡ lines script = sym (so.order ∙ ap (λ (t : List (List ℕ)). so.before ++ t) cut) in (
@@ -208,7 +208,7 @@ last_line T first now next script rest line number old mid new (Ok done) opens s
 last_line T first now next script rest line number old mid new (Err fault) opens so cut ok err = stopped T first now next script rest line err.0 [] number old mid new fault opens so cut err.1 err.2
 
 -- there is room for another row
-pub room_left : (first now : Recorded) (script rest : List ℕ) (number : ℕ) (old new : Option (List ℕ)) → SoFar first now script rest number old new → length script ≤ 16777216 → first.max_rows ≡ 4294967295 → length now.rows < now.max_rows
+pub room_left : (first now : CoreValue) (script rest : List ℕ) (number : ℕ) (old new : Option (List ℕ)) → SoFar first now script rest number old new → length script ≤ 16777216 → first.max_rows ≡ 4294967295 → length now.rows < now.max_rows
 room_left first now script rest number old new so short room = omega (arith, so.number_is, so.left, so.ran.few, so.ran.room, short, room)
 
 -- ---- before any line
@@ -251,12 +251,12 @@ whole_ran (Some all) (Some rest) old new script ended result taken end seen read
 
 -- ---- an answered event as the answer to its line
 
-pub event_answered : {T : Type 0} (now next : Recorded) (line : List ℕ) (event : Event) (old new : Option (List ℕ)) (result : Result T ScriptFault) → Reads line event → OnOk result ((text : List ℕ) × Answers now event next text × Appends old new text)
+pub event_answered : {T : Type 0} (now next : CoreValue) (line : List ℕ) (event : Event) (old new : Option (List ℕ)) (result : Result T ScriptFault) → Reads line event → OnOk result ((text : List ℕ) × Answers now event next text × Appends old new text)
     → OnOk result ((text : List ℕ) × AnswersLine now line next text × Appends old new text)
 event_answered now next line event old new (Ok done) reads ok = (ok.0, inr (event, reads, ok.1), ok.2)
 event_answered now next line event old new (Err fault) reads ok = tt
 
-pub event_stopped : {T : Type 0} (now next : Recorded) (number : ℕ) (line : List ℕ) (event : Event) (old new : Option (List ℕ)) (result : Result T ScriptFault) → Reads line event → OnErr result ((result ≡ Err stops.WriteFault) ⊎ (result ≡ Err stops.NoMemory)) → (result ≡ Err stops.NoMemory → Appends old new [])
+pub event_stopped : {T : Type 0} (now next : CoreValue) (number : ℕ) (line : List ℕ) (event : Event) (old new : Option (List ℕ)) (result : Result T ScriptFault) → Reads line event → OnErr result ((result ≡ Err stops.WriteFault) ⊎ (result ≡ Err stops.NoMemory)) → (result ≡ Err stops.NoMemory → Appends old new [])
     → (result ≡ Err stops.WriteFault → (text left : List ℕ) × Answers now event next (text ++ left) × Appends old new text) → IfErr result (λ fault. (text : List ℕ) × StopsIn now number line fault next text × Appends old new text)
 event_stopped now next number line event old new (Ok done) reads kinds memory written = tt
 event_stopped now next number line event old new (Err stops.NoMemory) reads kinds memory written = ([], (event, reads, refl), memory refl)
@@ -269,7 +269,7 @@ read_said None line client event said is = absurd (cc)
 read_said (Some pair) line client event said is = let same : pair ≡ (client, event) = cc in subst (λ (p : Option ClientId × Event). Reads line p.1) same said
 
 -- no event was answered: the line's own stop
-pub stopped_unread : {T : Type 0} (now : Recorded) (number : ℕ) (line : List ℕ) (known : Option (List ℕ)) (fault : ScriptFault) (result : Result T ScriptFault) → IsErrAnd result (λ reported. reported ≡ fault) → IsStop number line fault
+pub stopped_unread : {T : Type 0} (now : CoreValue) (number : ℕ) (line : List ℕ) (known : Option (List ℕ)) (fault : ScriptFault) (result : Result T ScriptFault) → IsErrAnd result (λ reported. reported ≡ fault) → IsStop number line fault
     → IfErr result (λ reported. (text : List ℕ) × StopsIn now number line reported now text × Appends known known text)
 stopped_unread now number line known fault (Ok done) reported stop = tt
 stopped_unread now number line known (stops.LineFault at kind) (Err same) reported stop = ([], rw reported (stop.0, stop.1, refl), none_appended known)

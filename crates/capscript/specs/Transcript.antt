@@ -7,7 +7,7 @@ use Rattle.inotree.specs.Calls.{first_tree}
 use Rattle.capstep.specs.declared.event.Event.{Event}
 use Rattle.capstep.specs.declared.row.Row.{Row}
 use Rattle.capstep.specs.declared.reply.Reply.{Reply}
-use Rattle.capstep.specs.History.{IsLegal, IsNext, IsOpening, Recorded}
+use Rattle.capstep.specs.History.{CoreValue, IsLegal, IsNext, IsOpening}
 use Rattle.capstep.specs.State.{State}
 use Rattle.texts.specs.declared.fault.LineFault.{LineFault}
 use Rattle.texts.specs.declared.fault.ScriptFault.{ScriptFault}
@@ -95,7 +95,7 @@ abbrev pub first_pass : PassId
 first_pass = record { 0 = 1 }
 
 -- the event is the next of the history, and this is the text of its answer
-pub record Answers (old : Recorded) (event : Event) (new : Recorded) (text : List ℕ) : Type 0 where
+pub record Answers (old : CoreValue) (event : Event) (new : CoreValue) (text : List ℕ) : Type 0 where
   pub reply : Reply
   pub next : IsNext old first_pass event reply new
   pub text_is : text ≡ reply_text reply
@@ -103,13 +103,13 @@ pub record Answers (old : Recorded) (event : Event) (new : Recorded) (text : Lis
 -- ---- one line
 
 -- a line that is skipped changes and writes nothing; the event of another is answered
-abbrev pub AnswersLine : Recorded → List ℕ → Recorded → List ℕ → Type 0
+abbrev pub AnswersLine : CoreValue → List ℕ → CoreValue → List ℕ → Type 0
 AnswersLine old line new text =
     (IsTrue (is_skipped line) × (new ≡ old) × (text ≡ []))
     ⊎ ((event : Event) × Reads line event × Answers old event new text)
 
 -- what was written where a line with this number stopped the script
-abbrev pub StopsIn : Recorded → ℕ → List ℕ → ScriptFault → Recorded → List ℕ → Type 0
+abbrev pub StopsIn : CoreValue → ℕ → List ℕ → ScriptFault → CoreValue → List ℕ → Type 0
 StopsIn old number line (stops.LineFault at kind) new text = (at ≡ number) × HasFault line kind × (text ≡ [])
 StopsIn old number line stops.NoMemory new text = (event : Event) × Reads line event × (text ≡ [])
 StopsIn old number line stops.WriteFault new text = (event : Event) × Reads line event × ((left : List ℕ) × Answers old event new (text ++ left))

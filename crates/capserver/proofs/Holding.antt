@@ -12,7 +12,7 @@ use Rattle.capstep.specs.declared.event.Event.{Event}
 use Rattle.capstep.specs.declared.reply.Reply.{Reply}
 use Rattle.capstep.specs.declared.row.Row.{Row}
 use Rattle.capstep.specs.Numbers.{AreNumbered, rows_of}
-use Rattle.capstep.specs.History.{IsLegal, IsNext, IsRecorded, Recorded, Replays, made_row}
+use Rattle.capstep.specs.History.{CoreValue, IsLegal, IsLegalCore, IsNext, Replays, made_row}
 use Rattle.capstep.specs.State.{State}
 use Rattle.capstep.specs.Noted.{view_of}
 use Rattle.snapshot.specs.Publishing.{IsReady, Publishing, first_of}
@@ -25,15 +25,15 @@ use Rattle.capserver.specs.Held.{IsHeld, IsLed}
 use Rattle.capserver.specs.Passes.{PassState, pass_id}
 
 -- at the opening there are no rows
-pub led_first : (opening : State) (max_rows : ℕ) (core : Recorded) → core.state ≡ opening → core.rows ≡ [] → core.max_rows ≡ max_rows → IsLed opening max_rows core
+pub led_first : (opening : State) (max_rows : ℕ) (core : CoreValue) → core.state ≡ opening → core.rows ≡ [] → core.max_rows ≡ max_rows → IsLed opening max_rows core
 led_first opening max_rows core at none most = record { replays = subst (λ (rows : List Row). Replays opening rows core.state) (sym none) at; max_rows_is = most }
 
 -- they are numbered
-pub numbered_first : (core : Recorded) → core.rows ≡ [] → AreNumbered core.rows
+pub numbered_first : (core : CoreValue) → core.rows ≡ [] → AreNumbered core.rows
 numbered_first core none = subst AreNumbered (sym none) (legal_none core.state).numbered
 
 -- then no row is in the book, and the view of the opening is published
-pub held_first : (opening : State) (core : Recorded) (calls : ℕ) (next : Publishing) → core.state ≡ opening → core.rows ≡ [] → core.max_rows ≤ 4294967295 → calls ≡ 0
+pub held_first : (opening : State) (core : CoreValue) (calls : ℕ) (next : Publishing) → core.state ≡ opening → core.rows ≡ [] → core.max_rows ≤ 4294967295 → calls ≡ 0
     → next ≡ first_of opening → IsHeld core calls next
 held_first opening core calls next at none room uncalled is =
     subst (IsHeld core calls) (sym is) (record {
@@ -45,12 +45,12 @@ held_first opening core calls next at none room uncalled is =
     })
 
 -- what began the rows begins them with one more
-pub begins_next : (old new : Recorded) (pass : PassId) (event : Event) (reply : Reply) (rows : List Row) → IsPrefix rows old.rows → IsNext old pass event reply new → IsPrefix rows new.rows
+pub begins_next : (old new : CoreValue) (pass : PassId) (event : Event) (reply : Reply) (rows : List Row) → IsPrefix rows old.rows → IsNext old pass event reply new → IsPrefix rows new.rows
 begins_next old new pass event reply rows up next =
     subst (IsPrefix rows) (sym next.rows) (prefix_more rows old.rows (made_row pass (rows_of pass old.rows + 1) event reply next.ended ∷ []) up)
 
 -- an event was made and counted, and its changes are published next
-pub held_next : (old new : Recorded) (pass : PassId) (event : Event) (reply : Reply) (calls counted : ℕ) (before after : Publishing) (changes : List ViewChange)
+pub held_next : (old new : CoreValue) (pass : PassId) (event : Event) (reply : Reply) (calls counted : ℕ) (before after : Publishing) (changes : List ViewChange)
     → IsHeld old calls before → IsNext old pass event reply new → counted ≡ calls + 1
     → AreChanges changes (view_of old.state) (view_of new.state)
     → IsPrefix after.rows new.rows → (after.lost ≡ false → before.lost ≡ false) → (after.lost ≡ false → after.rows ≡ new.rows) → (after.lost ≡ false → after.view ≡ fold view_by before.view changes)
@@ -64,15 +64,15 @@ held_next old new pass event reply calls counted before after changes held next 
 }
 
 -- the rows of a core that replay from the opening are a legal history, which is not too long to be counted
-pub legal_of : (opening : State) (core : Recorded) (rows : List Row) → Replays opening core.rows core.state → IsRecorded core → rows ≡ core.rows → Legal opening rows
+pub legal_of : (opening : State) (core : CoreValue) (rows : List Row) → Replays opening core.rows core.state → IsLegalCore core → rows ≡ core.rows → Legal opening rows
 legal_of opening core rows replays told is =
     subst (Legal opening) (sym is) (record { last = core.state; is_legal = record { replays = replays; numbered = told.legal.numbered } })
 
-pub room_of : (core : Recorded) (rows : List Row) → core.max_rows ≤ 4294967295 → IsRecorded core → rows ≡ core.rows → length rows ≤ 4294967295
+pub room_of : (core : CoreValue) (rows : List Row) → core.max_rows ≤ 4294967295 → IsLegalCore core → rows ≡ core.rows → length rows ≤ 4294967295
 room_of core rows room told is = omega (arith, ap length is, told.room, room)
 
 -- where a stage was lost, the whole view is staged, or a stage is lost again
-held_mended_at : (core : Recorded) (calls : ℕ) (before after : Publishing) (lost : Bool) → before.lost ≡ lost → IsHeld core calls before → IsPrefix after.rows core.rows
+held_mended_at : (core : CoreValue) (calls : ℕ) (before after : Publishing) (lost : Bool) → before.lost ≡ lost → IsHeld core calls before → IsPrefix after.rows core.rows
     → (before.lost ≡ false → after ≡ before) → (before.lost ≡ true → after.lost ≡ false → after.rows ≡ core.rows) → (before.lost ≡ true → after.lost ≡ false → after.view ≡ view_of core.state)
     → IsHeld core calls after
 held_mended_at core calls before after false is held begins kept whole seen = subst (IsHeld core calls) (sym (kept is)) held
@@ -84,7 +84,7 @@ held_mended_at core calls before after true is held begins kept whole seen = rec
   shows = λ there. subst (λ (v : View). Shows v (view_of core.state)) (sym (seen is there)) (shows-refl (view_of core.state));
 }
 
-pub held_mended : (core : Recorded) (calls : ℕ) (place taken : Option Publishing) (before after : Publishing) (rows : List Row) (view : View)
+pub held_mended : (core : CoreValue) (calls : ℕ) (place taken : Option Publishing) (before after : Publishing) (rows : List Row) (view : View)
     → MatchOption place ⊥ (IsHeld core calls) → taken ≡ place → taken ≡ Some before → rows ≡ core.rows → view ≡ view_of core.state → IsPrefix after.rows rows
     → (before.lost ≡ false → after ≡ before) → (before.lost ≡ true → after.lost ≡ false → after.rows ≡ rows) → (before.lost ≡ true → after.lost ≡ false → after.view ≡ view)
     → IsHeld core calls after
@@ -93,12 +93,12 @@ held_mended core calls place taken before after rows view held same is all shown
     (λ lost there. whole lost there ∙ all) (λ lost there. seen lost there ∙ shown)
 
 -- whatever readers see
-pub held_shown : (core : Recorded) (calls : ℕ) (next after : Publishing) → IsHeld core calls next → after ≡ record next { shown = after.shown } → IsHeld core calls after
+pub held_shown : (core : CoreValue) (calls : ℕ) (next after : Publishing) → IsHeld core calls next → after ≡ record next { shown = after.shown } → IsHeld core calls after
 held_shown core calls next after held same =
     subst (IsHeld core calls) (sym same) (record { counted = held.counted; room = held.room; begins = held.begins; whole = held.whole; shows = held.shows })
 
 -- what is staged then can be published
-pub ready_of : (opening : State) (core : Recorded) (calls : ℕ) (next : Publishing) → Replays opening core.rows core.state → IsHeld core calls next → AreNumbered core.rows → next.lost ≡ false → IsReady opening next
+pub ready_of : (opening : State) (core : CoreValue) (calls : ℕ) (next : Publishing) → Replays opening core.rows core.state → IsHeld core calls next → AreNumbered core.rows → next.lost ≡ false → IsReady opening next
 ready_of opening core calls next replays held numbered there = record {
   legal = record { last = core.state; is_legal = subst (λ (rows : List Row). IsLegal opening rows core.state) (sym (held.whole there)) (record { replays = replays; numbered = numbered }) };
   shows = held.shows there;
@@ -115,7 +115,7 @@ known_of (Some shown) all known More is same = (is.0 ∙ same, is.1)
 known_of None all known More is same = absurd is
 
 -- a pass that knows all rows, and more than before, knows the row of its event last
-pub fresh_of : (old core : Recorded) (before counted looked after : PassState) (event : Event) (reply : Reply) → IsNext old (pass_id before) event reply core
+pub fresh_of : (old core : CoreValue) (before counted looked after : PassState) (event : Event) (reply : Reply) → IsNext old (pass_id before) event reply core
     → counted ≡ record before { calls = before.calls + 1 } → IsPrefix counted.known looked.known → IsPrefix looked.known after.known
     → after.known ≡ core.rows → length looked.known < length after.known → IsFresh before after event reply
 fresh_of old core before counted looked after event reply next one up more all less =

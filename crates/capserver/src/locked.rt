@@ -39,14 +39,14 @@ pub struct Locked<L: Server> {
 
 impl<L: Server> Model for Locked<L> {
     ghost use Rattle.std.specs.Prelude.{◌≡◌, ◌+◌, MatchOption};
-    ghost use Rattle.capstep.specs.History.{Recorded};
+    ghost use Rattle.capstep.specs.History.{CoreValue};
     ghost use Rattle.capstep.specs.Numbers.{AreNumbered};
-    ghost use Rattle.capcore.specs.Codes.{recorded_code};
+    ghost use Rattle.capcore.specs.Codes.{core_code};
     ghost use Rattle.capserver.specs.Held.{IsHeld, IsLed};
 
-    ghost Value = { Recorded };
+    ghost Value = { CoreValue };
 
-    ghost coded = { recorded_code };
+    ghost coded = { core_code };
 
     ghost view = { λ s. s.core };
 

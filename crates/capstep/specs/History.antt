@@ -21,15 +21,15 @@ use Rattle.capstep.specs.State.{State}
 use Rattle.capstep.specs.Step.{Step, StepBy}
 
 -- a state, the history that led to it, how many rows it may have, and what the last step changed of what readers see
-pub record Recorded : Type 0 where
+pub record CoreValue : Type 0 where
   pub state : State
   pub rows : List Row
   pub max_rows : ℕ
   pub changes : List ViewChange
 
 -- what a core has, as one value
-abbrev pub recorded : State → List Row → ℕ → List ViewChange → Recorded
-recorded state rows max_rows changes = record { state = state; rows = rows; max_rows = max_rows; changes = changes }
+abbrev pub core_value : State → List Row → ℕ → List ViewChange → CoreValue
+core_value state rows max_rows changes = record { state = state; rows = rows; max_rows = max_rows; changes = changes }
 
 -- ---- the opening state
 
@@ -66,7 +66,7 @@ abbrev pub made_row : PassId → ℕ → Event → Reply → List Ended → Row
 made_row pass nth e reply ended = record { pass = pass; nth = nth; event = e; reply = reply; ended = ended }
 
 -- the event is one step, by these moves, and adds its row, which says which requests of earlier steps it ended
-pub record IsNext (old : Recorded) (pass : PassId) (e : Event) (reply : Reply) (new : Recorded) : Type 0 where
+pub record IsNext (old : CoreValue) (pass : PassId) (e : Event) (reply : Reply) (new : CoreValue) : Type 0 where
   pub moves : List Made
   pub ended : List Ended
   pub step : StepBy old.state e moves reply ended new.state
@@ -77,14 +77,14 @@ pub record IsNext (old : Recorded) (pass : PassId) (e : Event) (reply : Reply) (
 
 -- the history is legal, led here from some opening state and is not longer than it may be; the state is sound, with the
 -- numbers that so many rows can give; and the numbers of each entry say what its client was last shown
-pub record IsRecorded (t : Recorded) : Type 0 where
+pub record IsLegalCore (core : CoreValue) : Type 0 where
   pub fs : List ℕ
   pub tree : Nodes
   pub no_strays : HasNoStray tree
   pub opening : State
   pub is_opening : IsOpening fs tree opening
-  pub legal : IsLegal opening t.rows t.state
-  pub room : length t.rows ≤ t.max_rows
-  pub sound : IsSound t.state
-  pub given : AreGiven (length t.rows) t.state
-  pub shown : AreShown t.rows t.state.scene
+  pub legal : IsLegal opening core.rows core.state
+  pub room : length core.rows ≤ core.max_rows
+  pub sound : IsSound core.state
+  pub given : AreGiven (length core.rows) core.state
+  pub shown : AreShown core.rows core.state.scene

@@ -3,9 +3,9 @@ use Rattle.capcore.proofs.Placed.{all-revoked}
 use Rattle.capstep.specs.History.{made_row}
 use Rattle.capcore.proofs.Apart.{held-apart}
 use Rattle.capcore.proofs.Bounded.{direct-order, moves-bounded}
-use Rattle.capcore.proofs.Common.{IsReplied, IsSound, Recorded, Reply, Row, Scene, ShowsWhatIsPending, State, Step, direct, recorded, rows_of, step-shown}
-use Rattle.capcore.proofs.Growing.{more-recorded, replays-more}
-use Rattle.capcore.proofs.ReplayStays.{IsKept, recorded-stays}
+use Rattle.capcore.proofs.Common.{CoreValue, IsReplied, IsSound, Reply, Row, Scene, ShowsWhatIsPending, State, Step, core_value, direct, rows_of, step-shown}
+use Rattle.capcore.proofs.Growing.{more-legal, replays-more}
+use Rattle.capcore.proofs.ReplayStays.{IsInOrder, legal_core-in_order}
 use Rattle.capcore.proofs.OtherLocks.{other-locks}
 use Rattle.capcore.proofs.Promised.{denied-exactly, rejection-unchanged}
 use Rattle.capcore.proofs.Servings.{served-denied}
@@ -15,10 +15,10 @@ use Rattle.capcore.specs.Promised.{IsPromised}
 use Rattle.capcore.proofs.step.Core.apply.Goals as goal
 
 pub step-requires-clause-table : goal.step-requires-clause-table
-step-requires-clause-table c = (recorded-stays _ c.self.invariant).0
+step-requires-clause-table c = (legal_core-in_order _ c.self.invariant).0
 
 pub step-requires-clause-locks : goal.step-requires-clause-locks
-step-requires-clause-locks c = (recorded-stays _ c.self.invariant).1
+step-requires-clause-locks c = (legal_core-in_order _ c.self.invariant).1
 
 -- what the step says and leaves
 answered_of : (c : In-Ok) → IsReplied c.self.inside.world c.args.event c.in_ok-step_reply.step_reply c.step.new.self
@@ -34,8 +34,8 @@ recorded_step c =
     subst (λ (reply : Reply). Step c.self.inside.world c.args.event reply c.in_ok-step_reply.step_reply.ended c.step.new.self) (sym all.recorded) all.step
 
 -- the world has its entries and requests in order before the step
-kept_of : (c : In-Ok) → IsKept c.self.inside.world
-kept_of c = recorded-stays _ c.self.invariant
+order_of : (c : In-Ok) → IsInOrder c.self.inside.world
+order_of c = legal_core-in_order _ c.self.invariant
 
 -- and is sound after it
 next : (c : In-Ok) → IsSound c.step.new.self
@@ -59,20 +59,20 @@ invariant_of-self-2 c =
     let step : Step c.self.inside.world row.event row.reply row.ended c.step.new.self = recorded_step c in
     let all = answered_of c in
     rw (c.in-Ok.ensures.items, c.make_room.ensures.items)
-    (more-recorded (recorded c.self.inside.world c.self.inside.rows.items c.self.inside.max_rows c.self.inside.output.changes.items) row c.step.new.self c.step.new.output.changes.items c.self.invariant step c.in_ok-nth.ensures.number c.in_ok-nth.ensures.room.0
-    (kept_of c).0 all.sound (all.given (length c.self.inside.rows.items) c.self.invariant.given))
+    (more-legal (core_value c.self.inside.world c.self.inside.rows.items c.self.inside.max_rows c.self.inside.output.changes.items) row c.step.new.self c.step.new.output.changes.items c.self.invariant step c.in_ok-nth.ensures.number c.in_ok-nth.ensures.room.0
+    (order_of c).0 all.sound (all.given (length c.self.inside.rows.items) c.self.invariant.given))
 
-shows_told : (c : In-Ok) → ShowsWhatIsPending (c.self.inside.rows.items ++ row_of c ∷ []) c.step.new.self.scene
-shows_told c =
+shows_pending : (c : In-Ok) → ShowsWhatIsPending (c.self.inside.rows.items ++ row_of c ∷ []) c.step.new.self.scene
+shows_pending c =
     shows-pending (c.self.inside.rows.items ++ row_of c ∷ []) c.step.new.self (next c)
-    (step-shown c.self.inside.world c.step.new.self c.self.inside.rows.items (row_of c) c.self.invariant.sound (kept_of c).0 c.self.invariant.shown (recorded_step c))
+    (step-shown c.self.inside.world c.step.new.self c.self.inside.rows.items (row_of c) c.self.invariant.sound (order_of c).0 c.self.invariant.shown (recorded_step c))
 
 -- what the core was, and what it is with these rows
-abbrev before : In-Ok → Recorded
-before c = recorded c.self.inside.world c.self.inside.rows.items c.self.inside.max_rows c.self.inside.output.changes.items
+abbrev before : In-Ok → CoreValue
+before c = core_value c.self.inside.world c.self.inside.rows.items c.self.inside.max_rows c.self.inside.output.changes.items
 
-abbrev after : In-Ok → List Row → Recorded
-after c rows = recorded c.step.new.self rows c.self.inside.max_rows c.step.new.output.changes.items
+abbrev after : In-Ok → List Row → CoreValue
+after c rows = core_value c.step.new.self rows c.self.inside.max_rows c.step.new.output.changes.items
 
 promised : (c : In-Ok) → IsPromised (before c) c.args.pass c.args.event c.in_ok-step_reply.step_reply.reply.given (after c (c.self.inside.rows.items ++ row_of c ∷ []))
 promised c =
@@ -85,8 +85,8 @@ promised c =
     let all = answered_of c in
     let one = step_of c in
     let sound = next c in
-    let table = (kept_of c).0 in
-    let locks = (kept_of c).1 in
+    let table = (order_of c).0 in
+    let locks = (order_of c).1 in
     let first : Scene = (direct old event).state.scene in
     let by = one.1 in
     let made = by.settles.made in record {
@@ -99,8 +99,8 @@ promised c =
       in_place = sound.in_place;
       lost = all-revoked new.scene;
       apart = held-apart new sound;
-      shown = shows_told c;
-      shown_permitted = shows-permitted (rows ++ row_of c ∷ []) new.scene (shows_told c);
+      shown = shows_pending c;
+      shown_permitted = shows-permitted (rows ++ row_of c ∷ []) new.scene (shows_pending c);
       unshown = all-takes_unshown rows old event c.self.invariant.sound c.self.invariant.shown;
       only_so = takes-only_so old event new.scene all.issued;
       sound = sound;
@@ -112,5 +112,5 @@ promised c =
 
 pub returns-clause-promised : goal.returns-clause-promised
 returns-clause-promised c =
-    subst (λ (t : Recorded). IsPromised t c.args.pass c.args.event c.in_ok-step_reply.step_reply.reply.given (after c c.push.new.self.items)) c.self.view_is
+    subst (λ (t : CoreValue). IsPromised t c.args.pass c.args.event c.in_ok-step_reply.step_reply.reply.given (after c c.push.new.self.items)) c.self.view_is
     (subst (λ (rows : List Row). IsPromised (before c) c.args.pass c.args.event c.in_ok-step_reply.step_reply.reply.given (after c rows)) (sym (added c)) (promised c))
