@@ -6,7 +6,7 @@ use Rattle.capstep.specs.Recorded.{twice}
 use Rattle.capcore.proofs.EntryRequests.{Keeps}
 use Rattle.capcore.proofs.Knowing.{held_at}
 use Rattle.capcore.specs.Begun.{MayEndAt, among}
-use Rattle.capcore.proofs.Closing.{affects-ends, affects-one, affects-settles, ends-table, for_clients-all, for_clients-but_own, for_clients-own_numbers}
+use Rattle.capcore.proofs.Closing.{affects-ends, affects-one, affects-settles, ended_now-all, ended_now-but_own, ended_now-own_numbers, ends-table}
 use Rattle.capcore.proofs.Common.{Affected, Affects, AffectsOne, AreBelow, AreChanges, AreCounted, AreCountedIn, AreGiven, AreKnown, ArePermittedIn}
 use Rattle.capcore.proofs.Common.{ClientViews, CountedLocks, Direct, Ended, EndsWith, Entry, EntryRequest, Event, HasRoom, HaveOwnNumbers, HaveRoomFor, Holder}
 use Rattle.capcore.proofs.Common.{IsJudged, IsLockMap, IsReplied, IsSubset, IsTable, Knows, MayEnd, MaySettle, NumbersLeft, Scene, SettlesAt, SettlesWith}
@@ -111,20 +111,20 @@ pub fewer-places : (a : ReplyDue) (n m : ℕ) → m ≤ n → HasPlaces a n → 
 fewer-places a n m few places = grind arith
 
 -- those of earlier steps are no more than all
-pub few-earlier : (a : ReplyDue) (for_clients : List Ended) → length (earlier_of a for_clients) ≤ length for_clients
-few-earlier a for_clients = grind (arith, length-filter, count_by-le-length)
+pub few-earlier : (a : ReplyDue) (ended_now : List Ended) → length (earlier_of a ended_now) ≤ length ended_now
+few-earlier a ended_now = grind (arith, length-filter, count_by-le-length)
 
 -- ---- the end of the step
 
 module _ (p q : CoreState) (output : StepOutput) (e : Event) (effect : Applied) (may : MayBegin p e) (begun : HasBegun p e effect q output)
-    (now : ClientViews) (last : Scene) (for_clients : List Ended) (ends : EndsWith (among effect.affected) q.scene.table.kept now (plain q.scene) last for_clients) where
+    (now : ClientViews) (last : Scene) (ended_now : List Ended) (ends : EndsWith (among effect.affected) q.scene.table.kept now (plain q.scene) last ended_now) where
   abbrev before : State
   before = state_of p
 
   abbrev affected : State
   affected = state_of q
 
-  abbrev settles : SettlesWith ends.at (among effect.affected) (plain q.scene) ends.settled for_clients ends.sized
+  abbrev settles : SettlesWith ends.at (among effect.affected) (plain q.scene) ends.settled ended_now ends.sized
   settles = ends.settles
 
   order : IsLockMap q.scene.locks.locks
@@ -132,24 +132,24 @@ module _ (p q : CoreState) (output : StepOutput) (e : Event) (effect : Applied) 
 
   pub ended-known : AreKnown now last
   ended-known =
-      ends-known p.scene.table.kept q.scene.table.kept now (among effect.affected) before affected may.whole.0 may.table begun.table begun.affects may.whole.2.0 begun.still begun.knows last for_clients ends
+      ends-known p.scene.table.kept q.scene.table.kept now (among effect.affected) before affected may.whole.0 may.table begun.table begun.affects may.whole.2.0 begun.still begun.knows last ended_now ends
 
-  pub ended-numbers : HaveOwnNumbers for_clients
-  ended-numbers = for_clients-own_numbers ends.at (among effect.affected) (plain q.scene) ends.settled for_clients ends.sized settles
+  pub ended-numbers : HaveOwnNumbers ended_now
+  ended-numbers = ended_now-own_numbers ends.at (among effect.affected) (plain q.scene) ends.settled ended_now ends.sized settles
 
-  all : q.scene.locks.locks.last ≡ p.scene.locks.locks.last → earlier p.scene.locks.locks.last for_clients ≡ for_clients
-  all same = subst (λ n. earlier n for_clients ≡ for_clients) same (for_clients-all ends.at (among effect.affected) (plain q.scene) ends.settled for_clients ends.sized settles order)
+  all : q.scene.locks.locks.last ≡ p.scene.locks.locks.last → earlier p.scene.locks.locks.last ended_now ≡ ended_now
+  all same = subst (λ n. earlier n ended_now ≡ ended_now) same (ended_now-all ends.at (among effect.affected) (plain q.scene) ends.settled ended_now ends.sized settles order)
 
-  by_reply : (a : ReplyDue) → IsNumbered a p.scene.locks.locks.last q.scene.locks.locks.last → earlier p.scene.locks.locks.last for_clients ≡ earlier_of a for_clients
-  by_reply (Awaited ticket) (own, next) = for_clients-but_own ends.at (among effect.affected) (plain q.scene) ends.settled for_clients ends.sized settles order p.scene.locks.locks.last ticket own next
+  by_reply : (a : ReplyDue) → IsNumbered a p.scene.locks.locks.last q.scene.locks.locks.last → earlier p.scene.locks.locks.last ended_now ≡ earlier_of a ended_now
+  by_reply (Awaited ticket) (own, next) = ended_now-but_own ends.at (among effect.affected) (plain q.scene) ends.settled ended_now ends.sized settles order p.scene.locks.locks.last ticket own next
   by_reply a same = all same
 
-  others : earlier p.scene.locks.locks.last for_clients ≡ earlier_of effect.reply_due for_clients
+  others : earlier p.scene.locks.locks.last ended_now ≡ earlier_of effect.reply_due ended_now
   others = by_reply effect.reply_due begun.number
 
   -- the state at the end, but for what is shown
   abbrev pub closed : State
-  closed = record { scene = last; messages = q.messages.items ++ earlier_of effect.reply_due for_clients }
+  closed = record { scene = last; messages = q.messages.items ++ earlier_of effect.reply_due ended_now }
 
   abbrev by_the_rules : State
   by_the_rules = state_at_end before (direct before e).state settles.moves (finished_at ends.at (known_in q.scene.table.kept) (sizes_owed (sized_in settles.moves) ends.settled))
@@ -157,15 +157,15 @@ module _ (p q : CoreState) (output : StepOutput) (e : Event) (effect : Applied) 
   same_state : closed ≡ by_the_rules
   same_state = grind (arith, others)
 
-  pub ended-replied : (step_reply : StepReply) (new : State) → step_reply.reply ≡ twice (reply_of closed for_clients (direct_reply_of effect.reply_due))
-      → step_reply.ended ≡ dropped_of effect.reply_due ++ earlier_of effect.reply_due for_clients → new ≡ shown (direct_reply_of effect.reply_due) closed → IsReplied before e step_reply new
+  pub ended-replied : (step_reply : StepReply) (new : State) → step_reply.reply ≡ twice (reply_of closed ended_now (direct_reply_of effect.reply_due))
+      → step_reply.ended ≡ dropped_of effect.reply_due ++ earlier_of effect.reply_due ended_now → new ≡ shown (direct_reply_of effect.reply_due) closed → IsReplied before e step_reply new
   ended-replied step_reply new replies ended new-is =
       let c =
       concluded ends.at (among effect.affected) (known_in q.scene.table.kept) before e settles.moves ends.settled may.whole.0 (subst (Affects (among effect.affected) before) begun.is begun.affects)
       (subst (λ (s : State). IsTable s.scene.table) begun.is begun.table) (subst (λ (s : State). IsLockMap s.scene.locks) begun.is order)
       (subst (λ (s : State). Knows (known_in q.scene.table.kept) before.scene s.scene.table) begun.is begun.knows) begun.gives
       (subst (λ (s : State). SettlesAt ends.at (among effect.affected) settles.moves s.scene ends.settled) begun.is settles.settles) ends.tree
-      (subst (λ (s : State). IsTable s.scene.table) same_state (ends-table (among effect.affected) q.scene.table.kept now (plain q.scene) last for_clients ends begun.table)) step_reply.reply.given new
+      (subst (λ (s : State). IsTable s.scene.table) same_state (ends-table (among effect.affected) q.scene.table.kept now (plain q.scene) last ended_now ends begun.table)) step_reply.reply.given new
       (given-twice step_reply.reply _ replies ∙ (λ i. reply_of (same_state i) (settles.ended_is i) (begun.reply_due i))) (new-is ∙ (λ i. shown (begun.reply_due i) (same_state i))) in
       let ends_so : all_ended before (direct before e) settles.moves ≡ step_reply.ended =
       (λ i. (sym begun.dropped) i ++ earlier p.scene.locks.locks.last ((sym settles.ended_is) i)) ∙ ap (λ ms. dropped_of effect.reply_due ++ ms) others ∙ sym ended in

@@ -13,29 +13,29 @@ use Rattle.capcore.proofs.EndedIn.{earlier-all, earlier-but_own, own-numbers}
 
 -- ---- the numbers of those that a settling ends
 
-module _ (at from : ℕ → Bool) (first settled : Scene) (for_clients : List Ended) (sized : List Ino) (settles : SettlesWith at from first settled for_clients sized) where
+module _ (at from : ℕ → Bool) (first settled : Scene) (ended_now : List Ended) (sized : List Ino) (settles : SettlesWith at from first settled ended_now sized) where
   made : MakesAll first settles.moves settled
   made = settles.settles.settles.made
 
-  pub for_clients-own_numbers : HaveOwnNumbers for_clients
-  for_clients-own_numbers = subst HaveOwnNumbers (sym settles.ended_is) (own-numbers first settles.moves settled made)
+  pub ended_now-own_numbers : HaveOwnNumbers ended_now
+  ended_now-own_numbers = subst HaveOwnNumbers (sym settles.ended_is) (own-numbers first settles.moves settled made)
 
-  pub for_clients-all : IsLockMap first.locks → earlier first.locks.last for_clients ≡ for_clients
-  for_clients-all order = subst (λ (ms : List Ended). earlier first.locks.last ms ≡ ms) (sym settles.ended_is) (earlier-all first settled settles.moves made order)
+  pub ended_now-all : IsLockMap first.locks → earlier first.locks.last ended_now ≡ ended_now
+  ended_now-all order = subst (λ (ms : List Ended). earlier first.locks.last ms ≡ ms) (sym settles.ended_is) (earlier-all first settled settles.moves made order)
 
-  pub for_clients-but_own : IsLockMap first.locks → (last : ℕ) (own : Ticket) → own.0 ≡ last + 1 → first.locks.last ≡ last + 1 → earlier last for_clients ≡ but_for own for_clients
-  for_clients-but_own order last own next given =
+  pub ended_now-but_own : IsLockMap first.locks → (last : ℕ) (own : Ticket) → own.0 ≡ last + 1 → first.locks.last ≡ last + 1 → earlier last ended_now ≡ but_for own ended_now
+  ended_now-but_own order last own next given =
       subst (λ (ms : List Ended). earlier last ms ≡ but_for own ms) (sym settles.ended_is) (earlier-but_own first settled settles.moves made order last own next given)
 
 -- ---- at the end the sessions are as they were, and each entry has one row still
 
-pub ends-sessions : (from : ℕ → Bool) (was now : ClientViews) (first last : Scene) (for_clients : List Ended) → EndsWith from was now first last for_clients → last.sessions ≡ first.sessions
-ends-sessions from was now first last for_clients ends = grind arith
+pub ends-sessions : (from : ℕ → Bool) (was now : ClientViews) (first last : Scene) (ended_now : List Ended) → EndsWith from was now first last ended_now → last.sessions ≡ first.sessions
+ends-sessions from was now first last ended_now ends = grind arith
 
-pub ends-table : (from : ℕ → Bool) (was now : ClientViews) (first last : Scene) (for_clients : List Ended) → EndsWith from was now first last for_clients → IsTable first.table → IsTable last.table
-ends-table from was now first last for_clients ends table =
+pub ends-table : (from : ℕ → Bool) (was now : ClientViews) (first last : Scene) (ended_now : List Ended) → EndsWith from was now first last ended_now → IsTable first.table → IsTable last.table
+ends-table from was now first last ended_now ends table =
     let then = sizes_owed ends.sized ends.settled in
-    let moved = moved-all first ends.settles.moves ends.settled (made ends.at from first ends.settled for_clients ends.sized ends.settles) in
+    let moved = moved-all first ends.settles.moves ends.settled (made ends.at from first ends.settled ended_now ends.sized ends.settles) in
     subst (λ (s : Scene). IsTable s.table) (sym ends.finished)
     (table-where (λ row. ends.at row.holder.ino.0) (finished_entry (known_in was) then) then.table
     (table-where (is_sized ends.sized) owed ends.settled.table (subst IsTable (sym moved.table) table)))

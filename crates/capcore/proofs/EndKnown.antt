@@ -13,8 +13,8 @@ use Rattle.capcore.proofs.Common.{StillKnown, finished_at, known_in, known_of, r
 
 module _ (before was now : ClientViews) (from : ℕ → Bool) (old affected : State) (sound : IsSound old) (old_table : IsTable old.scene.table) (table : IsTable affected.scene.table)
     (affects : Affects from old affected) (known : AreKnown before old.scene) (still : StillKnown old.scene.table affected.scene.table before was) (knows : Knows (known_in was) old.scene affected.scene.table)
-    (last : Scene) (for_clients : List Ended) (ends : EndsWith from was now affected.scene last for_clients) where
-  abbrev settles : SettlesWith ends.at from affected.scene ends.settled for_clients ends.sized
+    (last : Scene) (ended_now : List Ended) (ends : EndsWith from was now affected.scene last ended_now) where
+  abbrev settles : SettlesWith ends.at from affected.scene ends.settled ended_now ends.sized
   settles = ends.settles
 
   -- elsewhere entries are as they were

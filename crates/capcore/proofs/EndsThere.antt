@@ -12,12 +12,12 @@ use Rattle.capcore.proofs.CommonPieces.{AreKnown, Cap, Caps, ClientViews, Entry,
 use Rattle.capcore.proofs.CommonPieces.{KnownAnew, Made, Part, Scene, State, Table, entry_at, entry_of, find-map, find_passes, finished, forget, has-union, issuable}
 use Rattle.capcore.proofs.CommonPieces.{is_gone, is_in_use, is_of_inode, is_row_of, issue, issue_row, known_anew, known_of, lock_at, lock_in, meet, number_row}
 use Rattle.capcore.proofs.CommonPieces.{or_inside, pending_of, permitted, permitted-stays, presence, remade, renumbered, row_found, same, same-is, still_known}
-use Rattle.capcore.proofs.SoundEnd.{each-alike, kept_by, same-issue_row, same-renumbered}
+use Rattle.capcore.proofs.SoundEnd.{each-alike, in_use_by, same-issue_row, same-renumbered}
 use Rattle.capcore.proofs.Forgotten.{issuable-left}
 use Rattle.capcore.proofs.LeftAlone.{found-contains}
 use Rattle.capcore.proofs.Moved.{moved-all}
 use Rattle.capcore.proofs.SameOff.{IsSameFrom, any_elsewhere, from-first, row_elsewhere}
-use Rattle.capcore.proofs.Strays.{alike-retained, goes, kept-held, retained-here}
+use Rattle.capcore.proofs.Strays.{alike-retained, goes, in_use-held, retained-here}
 use Rattle.capcore.proofs.Telling.{any-map_same}
 use Rattle.capcore.specs.Affected.{Affects, Knows, SettlesAt, finished_at, finished_entry, pending_then, stays}
 
@@ -72,10 +72,10 @@ module _ (at : ℕ → Bool) (known : Holder → Caps) (old : State) (now : Scen
       let was = All-contains (IsSoundEntry old.scene) old.scene.table.rows row sound.entries (row_elsewhere at old.scene.table now.table same_from.entries row inside off) in
       subst (λ caps. IsSubset caps row.entry.held) (sym (off_issuable row inside off)) was.has_issuable
 
-  -- ---- which inodes are kept
+  -- ---- which inodes are in use
 
-  kept_elsewhere : (q : ℕ) → at q ≡ false → is_in_use (issue now) q ≡ true
-  kept_elsewhere q off = kept_by (presence now.tree.nodes q) _ (λ gone.
+  in_use_elsewhere : (q : ℕ) → at q ≡ false → is_in_use (issue now) q ≡ true
+  in_use_elsewhere q off = in_use_by (presence now.tree.nodes q) _ (λ gone.
       any-map_same (is_of_inode (record { 0 = q })) (issue_row now) (λ row. refl) now.table.rows
       ∙ any_elsewhere at old.scene.table now.table same_from.entries q off ∙ sound.strays q (sym (same_from.presences q off) ∙ gone))
 
@@ -89,37 +89,37 @@ module _ (at : ℕ → Bool) (known : Holder → Caps) (old : State) (now : Scen
   any_issued : (q : ℕ) → list_any (is_of_inode (record { 0 = q })) (map (issue_row now) now.table.rows) ≡ list_any (is_of_inode (record { 0 = q })) now.table.rows
   any_issued q = any-map_same (is_of_inode (record { 0 = q })) (issue_row now) (λ row. refl) now.table.rows
 
-  -- once they are issued as once they are numbered, the same inodes are kept
-  kept_issued : (q : ℕ) → is_in_use (issue now) q ≡ is_in_use now q
-  kept_issued q = ap (λ b. not (is_gone (presence now.tree.nodes q)) || b) (any_issued q)
+  -- once they are issued as once they are numbered, the same inodes are in use
+  in_use_issued : (q : ℕ) → is_in_use (issue now) q ≡ is_in_use now q
+  in_use_issued q = ap (λ b. not (is_gone (presence now.tree.nodes q)) || b) (any_issued q)
 
-  kept_numbered : (q : ℕ) → is_in_use numbered q ≡ is_in_use now q
-  kept_numbered q = ap (λ b. not (is_gone (presence now.tree.nodes q)) || b) (any_ended q)
+  in_use_numbered : (q : ℕ) → is_in_use numbered q ≡ is_in_use now q
+  in_use_numbered q = ap (λ b. not (is_gone (presence now.tree.nodes q)) || b) (any_ended q)
 
   -- and all others are
   stays_so : (q : ℕ) → is_in_use (issue now) q ≡ stays at numbered q
-  stays_so q = grind (arith, kept_issued, kept_numbered, kept_elsewhere)
+  stays_so q = grind (arith, in_use_issued, in_use_numbered, in_use_elsewhere)
 
-  kept_map : {V : Type 0} (m : finite.FinMap nat_cmp V) → finite.retain_keys m (is_in_use (issue now)) ≡ finite.retain_keys m (stays at numbered)
-  kept_map m = λ i. finite.retain_keys m (λ q. stays_so q i)
+  retained_map : {V : Type 0} (m : finite.FinMap nat_cmp V) → finite.retain_keys m (is_in_use (issue now)) ≡ finite.retain_keys m (stays at numbered)
+  retained_map m = λ i. finite.retain_keys m (λ q. stays_so q i)
 
-  kept_row : (row : EntryRow) → Contains now.table.rows row → is_in_use (issue now) row.holder.ino.0 ≡ true
-  kept_row row inside = kept_issued row.holder.ino.0 ∙ kept-held now row inside
+  in_use_row : (row : EntryRow) → Contains now.table.rows row → is_in_use (issue now) row.holder.ino.0 ≡ true
+  in_use_row row inside = in_use_issued row.holder.ino.0 ∙ in_use-held now row inside
 
   -- ---- the rows
 
   -- an inode that somebody has an entry on keeps its locks
-  locks_kept : (row : EntryRow) → Contains now.table.rows row → finite.get last.locks.states row.holder.ino.0 ≡ finite.get now.locks.states row.holder.ino.0
-  locks_kept row inside = retained-here now.locks.states (is_in_use (issue now)) row.holder.ino.0 (kept_row row inside)
+  locks_stay : (row : EntryRow) → Contains now.table.rows row → finite.get last.locks.states row.holder.ino.0 ≡ finite.get now.locks.states row.holder.ino.0
+  locks_stay row inside = retained-here now.locks.states (is_in_use (issue now)) row.holder.ino.0 (in_use_row row inside)
 
   -- and what is permitted there, as what is forgotten is another inode
   may_last : (row : EntryRow) → Contains now.table.rows row → permitted last.fs last.tree last.sessions row.holder ≡ permitted now.fs now.tree now.sessions row.holder
   may_last row inside =
       permitted-stays now.fs now.tree last.tree now.sessions now.sessions row.holder
-      (alike-retained now.tree (is_in_use (issue now)) tree (λ q gone. (goes (λ _. true) (issue now) q gone).1) row.holder.ino.0 (kept_row row inside)) refl
+      (alike-retained now.tree (is_in_use (issue now)) tree (λ q gone. (goes (λ _. true) (issue now) q gone).1) row.holder.ino.0 (in_use_row row inside)) refl
 
   pending_last : (row : EntryRow) → Contains now.table.rows row → (e : Entry) → pending_of last (record row { entry = e }) ≡ pending_of now (record row { entry = e })
-  pending_last row inside e = pending-same last now (record row { entry = e }) (λ part. ap (option_map (lock_in part)) (locks_kept row inside)) (may_last row inside)
+  pending_last row inside e = pending-same last now (record row { entry = e }) (λ part. ap (option_map (lock_in part)) (locks_stay row inside)) (may_last row inside)
 
   numbered_row : (row : EntryRow) → Contains now.table.rows row → number_row old.scene now last (issue_row now row) ≡ remade (finished_entry known now) row
   numbered_row row inside =
@@ -138,9 +138,9 @@ module _ (at : ℕ → Bool) (known : Holder → Caps) (old : State) (now : Scen
 
   pub ends_there : finished old.scene now now ≡ finished_at at known now
   ends_there = λ i. record now {
-    tree = record now.tree { nodes = kept_map now.tree.nodes i };
+    tree = record now.tree { nodes = retained_map now.tree.nodes i };
     table = record now.table { rows = (map-map (number_row old.scene now last) (issue_row now) now.table.rows ∙ each-alike (λ row. number_row old.scene now last (issue_row now row)) ended now.table.rows one_row) i };
-    locks = record now.locks { states = kept_map now.locks.states i };
+    locks = record now.locks { states = retained_map now.locks.states i };
   }
 
   -- ---- what is known of each entry
@@ -148,7 +148,7 @@ module _ (at : ℕ → Bool) (known : Holder → Caps) (old : State) (now : Scen
   -- what is forgotten has no entry, so each client is told as before
   pending_finished : (row : EntryRow) → Contains now.table.rows row → (e : Entry) → pending_of (finished_at at known now) (record row { entry = e }) ≡ pending_of now (record row { entry = e })
   pending_finished row inside e =
-      sym (λ i. pending_of (record now { tree = record now.tree { nodes = kept_map now.tree.nodes i }; locks = record now.locks { states = kept_map now.locks.states i } }) (record row { entry = e }))
+      sym (λ i. pending_of (record now { tree = record now.tree { nodes = retained_map now.tree.nodes i }; locks = record now.locks { states = retained_map now.locks.states i } }) (record row { entry = e }))
       ∙ pending_last row inside e
 
   pub found_last : (k : Holder) → find (is_row_of k) (finished_at at known now).table.rows ≡ option_map ended (find (is_row_of k) now.table.rows)
@@ -182,7 +182,7 @@ module _ (at : ℕ → Bool) (known : Holder → Caps) (old : State) (now : Scen
   module _ where
     -- what is forgotten has no entry, and none elsewhere reads it
     pub issuable_last : (row : EntryRow) → Contains now.table.rows row → issuable (finished_at at known now) row ≡ issuable now row
-    issuable_last row inside = issuable-left at numbered tree row (kept_numbered row.holder.ino.0 ∙ kept-held now row inside)
+    issuable_last row inside = issuable-left at numbered tree row (in_use_numbered row.holder.ino.0 ∙ in_use-held now row inside)
 
     pub held_last : (row : EntryRow) (cap : Cap) → Contains now.table.rows row → has (ended row).entry.held cap ≡ (has row.entry.held cap || has (issuable (finished_at at known now) (ended row)) cap)
     held_last row cap inside = elim (at row.holder.ino.0) as (λ b. at row.holder.ino.0 ≡ b

@@ -60,13 +60,13 @@ opening-pin s client ino mode free = grind (arith, pin_of_read, pin_of_write)
 -- ---- an entry whose pin is held
 
 -- what every state keeps of an entry, and where what it holds is
-abbrev pub IsKeptEntry : Scene → EntryRow → Type 0
-IsKeptEntry s row = IsSoundEntry s row × ((part : Part) → IsInRow s row part)
+abbrev pub IsSoundInRow : Scene → EntryRow → Type 0
+IsSoundInRow s row = IsSoundEntry s row × ((part : Part) → IsInRow s row part)
 
 -- so an event may leave it, where its client has a session still, and the same inodes and locks are there
-pub kept-left : (s new : Scene) (row : EntryRow) → has_session new.sessions row.holder.client.0 ≡ has_session s.sessions row.holder.client.0 → new.locks.states ≡ s.locks.states
-    → ((ino : ℕ) → map.contains_key new.tree.nodes ino ≡ map.contains_key s.tree.nodes ino) → IsKeptEntry s row → IsAffectedEntry new row
-kept-left s new row sessions states exist (entry, in_row) = record {
+pub sound_in_row-left : (s new : Scene) (row : EntryRow) → has_session new.sessions row.holder.client.0 ≡ has_session s.sessions row.holder.client.0 → new.locks.states ≡ s.locks.states
+    → ((ino : ℕ) → map.contains_key new.tree.nodes ino ≡ map.contains_key s.tree.nodes ino) → IsSoundInRow s row → IsAffectedEntry new row
+sound_in_row-left s new row sessions states exist (entry, in_row) = record {
   of_session = sessions ∙ entry.of_session;
   on_inode = exist row.holder.ino.0 ∙ entry.on_inode;
   wants_pin = entry.wants_pin;
@@ -77,26 +77,26 @@ kept-left s new row sessions states exist (entry, in_row) = record {
 }
 
 -- and every state keeps it
-pub kept-row : (old : State) → IsSound old → (row : EntryRow) → Contains old.scene.table.rows row → find (is_row_of row.holder) old.scene.table.rows ≡ Some row → IsKeptEntry old.scene row
-kept-row old sound row inside found = (
+pub sound-row : (old : State) → IsSound old → (row : EntryRow) → Contains old.scene.table.rows row → find (is_row_of row.holder) old.scene.table.rows ≡ Some row → IsSoundInRow old.scene row
+sound-row old sound row inside found = (
   All-contains (IsSoundEntry old.scene) old.scene.table.rows row sound.entries inside,
   λ part. placed-in_row old.scene row part (lock_at old.scene.locks row.holder.ino.0 part) (sound.in_place row part found),
 )
 
-pub sound-stays : (old : State) → IsSound old → IsTable old.scene.table → All (IsKeptEntry old.scene) old.scene.table.rows
+pub sound-stays : (old : State) → IsSound old → IsTable old.scene.table → All (IsSoundInRow old.scene) old.scene.table.rows
 sound-stays old sound table =
-    all_rows (IsKeptEntry old.scene) old.scene.table.rows (λ row inside. kept-row old sound row inside (row_found old.scene.table row table inside))
+    all_rows (IsSoundInRow old.scene) old.scene.table.rows (λ row inside. sound-row old sound row inside (row_found old.scene.table row table inside))
 
 -- so all are left, where the same sessions, inodes and locks are there
 pub all-left : (old : State) (new : Scene) → IsSound old → IsTable old.scene.table → new.sessions ≡ old.scene.sessions → new.locks.states ≡ old.scene.locks.states
     → ((ino : ℕ) → map.contains_key new.tree.nodes ino ≡ map.contains_key old.scene.tree.nodes ino) → All (IsAffectedEntry new) old.scene.table.rows
-all-left old new sound table sessions states exist = grind (arith, kept-left, sound-stays)
+all-left old new sound table sessions states exist = grind (arith, sound_in_row-left, sound-stays)
 
 -- what becomes of it holds no more
 less-in_row : (row : EntryRow) (e : Entry) (part : Part) (o : Option LockState) → IsSubset e.held row.entry.held → IsInRowOf row part o → IsInRowOf (record row { entry = e }) part o
 less-in_row row e part o less is = grind (arith, and_parts, has-of_part)
 
-less-affected : (s : Scene) (t : Table) (row : EntryRow) (was : Entry) → IsLess row.entry was → IsKeptEntry s (record row { entry = was }) → IsAffectedEntry (record s { table = t }) row
+less-affected : (s : Scene) (t : Table) (row : EntryRow) (was : Entry) → IsLess row.entry was → IsSoundInRow s (record row { entry = was }) → IsAffectedEntry (record s { table = t }) row
 less-affected s t row was less (entry, in_row) =
     let rows : (part : Part) → IsInRow s row part = λ part. less-in_row (record row { entry = was }) row.entry part (lock_at s.locks row.holder.ino.0 part) less.held (in_row part) in grind arith
 
@@ -203,7 +203,7 @@ module _ (old : State) (k : Holder) (request : EntryRequest) (table : IsTable ol
   module _ (sound : IsSound old) where
     affected-row : (row : EntryRow) → Contains next.table.rows row → IsAffectedEntry next row
     affected-row = by_row (IsAffectedEntry next)
-        (λ row was less inside found. less-affected old.scene next.table row was less (kept-row old sound (record row { entry = was }) inside found))
+        (λ row was less inside found. less-affected old.scene next.table row was less (sound-row old sound (record row { entry = was }) inside found))
         (λ row m.
         let opening : judged old.scene (Event.Open k.client k.ino m.mode) ≡ None = subst (λ r. judged old.scene (entry_event k.client k.ino r) ≡ None) m.is free in
         subst (IsAffectedEntry next) (λ i. row_with (sym m.own i) (sym m.entry i))

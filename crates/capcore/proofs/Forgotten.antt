@@ -12,7 +12,7 @@ use Rattle.capcore.proofs.CommonPieces.{effective_want, first_for, has_session, 
 use Rattle.capcore.proofs.CommonPieces.{with_scene}
 use Rattle.capcore.proofs.LeftAlone.{found-contains}
 use Rattle.capcore.proofs.Placed.{placed}
-use Rattle.capcore.proofs.Strays.{alike-retained, goes, kept-held, retained, retained-gone, retained-here, stays-kept}
+use Rattle.capcore.proofs.Strays.{alike-retained, goes, in_use-held, retained, retained-gone, retained-here, stays-in_use}
 use Rattle.capcore.specs.Affected.{forget_among, stays}
 
 -- ---- what is due
@@ -67,11 +67,11 @@ module _ (at : ℕ → Bool) (s : Scene) where
   no_lock q part is = ap (option_map (lock_in part)) (retained-gone s.locks.states keeps q is)
 
   want_left : IsTree s.tree → (row : EntryRow) → is_in_use s row.holder.ino.0 ≡ true → effective_want s.fs left.tree s.sessions row ≡ effective_want s.fs s.tree s.sessions row
-  want_left tree row kept = grind (arith, alike-retained, stays-kept)
+  want_left tree row used = grind (arith, alike-retained, stays-in_use)
 
-  -- the same is due on an inode that is kept
+  -- the same is due on an inode that is in use
   pub issuable-left : IsTree s.tree → (row : EntryRow) → is_in_use s row.holder.ino.0 ≡ true → issuable left row ≡ issuable s row
-  issuable-left tree row kept = same-issuable left s row (want_left tree row kept) (λ part. same_lock row.holder.ino.0 part (stays-kept at s row.holder.ino.0 kept))
+  issuable-left tree row used = same-issuable left s row (want_left tree row used) (λ part. same_lock row.holder.ino.0 part (stays-in_use at s row.holder.ino.0 used))
 
 module _ (at : ℕ → Bool) (s : State) (sound : IsSoundBut at s) (tree : IsTree s.scene.tree) where
   abbrev after : Scene
@@ -81,12 +81,12 @@ module _ (at : ℕ → Bool) (s : State) (sound : IsSoundBut at s) (tree : IsTre
   stay = stays at s.scene
 
   row_stays : (row : EntryRow) → Contains s.scene.table.rows row → stay row.holder.ino.0 ≡ true
-  row_stays row inside = stays-kept at s.scene row.holder.ino.0 (kept-held s.scene row inside)
+  row_stays row inside = stays-in_use at s.scene row.holder.ino.0 (in_use-held s.scene row inside)
 
   resting_left : (q : ℕ) (part : Part) (o : Option LockState) → IsLockAtRest s.scene q part o → IsLockAtRest after q part o
   resting_left q part (Some (Stable state)) resting = (
     ap (λ (ws : List Want). target_by s.scene.locks.queue (in_all ws) q part state)
-        (wants-stay s.scene after.tree s.scene.sessions q (all_rows _ s.scene.table.rows (λ row inside. want_left at s.scene tree row (kept-held s.scene row inside)))) ∙ resting.0,
+        (wants-stay s.scene after.tree s.scene.sessions q (all_rows _ s.scene.table.rows (λ row inside. want_left at s.scene tree row (in_use-held s.scene row inside)))) ∙ resting.0,
     resting.1,
   )
   resting_left q part o resting = resting
@@ -102,7 +102,7 @@ module _ (at : ℕ → Bool) (s : State) (sound : IsSoundBut at s) (tree : IsTre
 
   pub sound-forgotten : IsSound (with_scene s after)
   sound-forgotten = record {
-    entries = all_rows (IsSoundEntry after) s.scene.table.rows (λ row inside. grind (arith, All-contains, retained-here, row_stays, issuable-left, kept-held));
+    entries = all_rows (IsSoundEntry after) s.scene.table.rows (λ row inside. grind (arith, All-contains, retained-here, row_stays, issuable-left, in_use-held));
     waiting = sound.waiting;
     messages = sound.messages;
     locked = λ q. grind (arith, retained);

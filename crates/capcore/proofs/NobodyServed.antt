@@ -10,7 +10,7 @@ use Rattle.capcore.proofs.CommonPieces.{Scene, Served, SessionTable, Table, chan
 use Rattle.capcore.proofs.CommonPieces.{known_in, known_of, owed, permitted, permitted-stays, permitted_of, row_of-entry, sized_in, sizes_owed, was-there}
 use Rattle.capcore.proofs.LeftAlone.{found-contains}
 use Rattle.capcore.proofs.Moved.{tree-moved}
-use Rattle.capcore.proofs.Strays.{alike-retained, goes, kept-held, stays-kept}
+use Rattle.capcore.proofs.Strays.{alike-retained, goes, in_use-held, stays-in_use}
 use Rattle.capcore.specs.Affected.{finished_at, finished_entry, forget_among, pending_then, stays}
 use Rattle.capcore.specs.Begun.{ArePermittedIn, MayEnd}
 use Rattle.capcore.specs.Serves.{EndsAt, EndsWith, SettlesWith}
@@ -80,7 +80,7 @@ finished-permitted at known sized s was now tree kept all k e here =
     let inside : Contains left.table.rows (record { holder = k; entry = e }) = found-contains (is_row_of k) left.table.rows (record { holder = k; entry = e }) (row_of-entry left.table k e here) in
     kept k ∙ all k first.0 first.1
     ∙ ap Some (sym (permitted-stays s.fs s.tree (forget_among at left).tree s.sessions s.sessions k
-    (alike-retained s.tree (stays at left) tree (λ q gone. (goes at left q gone).1) k.ino.0 (stays-kept at left k.ino.0 (kept-held left (record { holder = k; entry = e }) inside))) refl))
+    (alike-retained s.tree (stays at left) tree (λ q gone. (goes at left q gone).1) k.ino.0 (stays-in_use at left k.ino.0 (in_use-held left (record { holder = k; entry = e }) inside))) refl))
 
 -- the locks settle and then the step ends
 pub settled-ends : (at from : ℕ → Bool) (was mid now : ClientViews) (first settled last : Scene) (ended : List Ended) (sized : List Ino)

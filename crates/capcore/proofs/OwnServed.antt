@@ -98,13 +98,13 @@ module _ (old : Scene) (client : ClientId) (inode : Ino) (operation : Operation)
 
     -- and a move of it leaves it alone
     still_alone : (i : ℕ) (p : Part) (lock : LockState) → is_at ino part (i, p) ≡ true → IsLockMap (with_lock locks i p lock) → IsAlone (with_lock locks i p lock)
-    still_alone i p lock here order = record { same_queue = alone.same_queue; others = λ id off. kept id off ∙ alone.others id off; order = order }
+    still_alone i p lock here order = record { same_queue = alone.same_queue; others = λ id off. stays id off ∙ alone.others id off; order = order }
       where
         same_id : (id : LockId) → is_at i p id ≡ is_at ino part id
         same_id id = let same = its_lock i p here in λ k. is_at (same.0 k) (same.1 k) id
 
-        kept : (id : LockId) → is_at ino part id ≡ false → lock_at (with_lock locks i p lock) id.0 id.1 ≡ lock_at locks id.0 id.1
-        kept id off =
+        stays : (id : LockId) → is_at ino part id ≡ false → lock_at (with_lock locks i p lock) id.0 id.1 ≡ lock_at locks id.0 id.1
+        stays id off =
             with_lock-each locks i p lock (λ b (id : LockId) o. b ≡ false → o ≡ lock_at locks id.0 id.1) (λ e. absurd (true≢false e)) (λ id e. refl) id
             (same_id id ∙ off)
 

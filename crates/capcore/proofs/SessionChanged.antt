@@ -8,7 +8,7 @@ use Rattle.std.specs.FinMap as map
 use Rattle.capbits.proofs.Maps.{remove-at}
 use Rattle.captable.proofs.ByInode.{entries_on-without_client}
 use Rattle.sessiontab.specs.Connected.{SessionMap, change_session}
-use Rattle.capcore.proofs.EntryRequests.{IsKeptEntry, kept-left, sound-stays}
+use Rattle.capcore.proofs.EntryRequests.{IsSoundInRow, sound-stays, sound_in_row-left}
 use Rattle.lockmachine.proofs.Finding.{fails_at, find_none}
 use Rattle.lockmachine.proofs.SameOutside.{outside-dropped, outside-itself, outside-then}
 use Rattle.capstep.specs.DueEndings.{is_to}
@@ -140,16 +140,16 @@ module _ (old : State) (client : ClientId) (change : SessionChange) (sound : IsS
     abbrev first : Scene
     first = (session_changed old client change).scene
 
-    one-left : (row : EntryRow) → has_session sessions row.holder.client.0 ≡ has_session old.scene.sessions row.holder.client.0 → IsKeptEntry old.scene row → IsAffectedEntry first row
-    one-left row has kept = kept-left old.scene first row has (left-states (is_end change)) (λ ino. refl) kept
+    one-left : (row : EntryRow) → has_session sessions row.holder.client.0 ≡ has_session old.scene.sessions row.holder.client.0 → IsSoundInRow old.scene row → IsAffectedEntry first row
+    one-left row has in_row = sound_in_row-left old.scene first row has (left-states (is_end change)) (λ ino. refl) in_row
 
     left-entries : (b : Bool) → is_end change ≡ b → All (IsAffectedEntry first) (table_left b old.scene.table client).rows
     left-entries false is =
-        All-weaker (IsKeptEntry old.scene) (IsAffectedEntry first) (λ row kept. one-left row (has_by false is row.holder.client.0 (λ e. absurd (true≢false (sym e)))) kept) old.scene.table.rows
+        All-weaker (IsSoundInRow old.scene) (IsAffectedEntry first) (λ row in_row. one-left row (has_by false is row.holder.client.0 (λ e. absurd (true≢false (sym e)))) in_row) old.scene.table.rows
         (sound-stays old sound table)
     left-entries true is =
-        left-ended (is_of_client client) (IsKeptEntry old.scene) (IsAffectedEntry first) old.scene.table.rows (sound-stays old sound table)
-        (λ row off kept. one-left row (has_by true is row.holder.client.0 (λ e. off)) kept)
+        left-ended (is_of_client client) (IsSoundInRow old.scene) (IsAffectedEntry first) old.scene.table.rows (sound-stays old sound table)
+        (λ row off in_row. one-left row (has_by true is row.holder.client.0 (λ e. off)) in_row)
 
     -- each was there
     was-row : (b : Bool) (row : EntryRow) → Contains (table_left b old.scene.table client).rows row → Contains old.scene.table.rows row

@@ -121,8 +121,8 @@ changed-keeps t j k g held e there = elim (cases_Bool (same k j)) [
 ]
 
 -- an opening makes no other entry than was there
-entry-kept : (t : Table) (j k : Holder) (e : Entry) → entry_at t k ≡ Some e → entry_at (with_entry t j) k ≡ Some e
-entry-kept t j k e there = grind (arith, entry_at-entry_other, apart-of, same-is)
+entry-still : (t : Table) (j k : Holder) (e : Entry) → entry_at t k ≡ Some e → entry_at (with_entry t j) k ≡ Some e
+entry-still t j k e there = grind (arith, entry_at-entry_other, apart-of, same-is)
 
 recalled-keeps : (t : Table) (n : ℕ) (k : Holder) → KeepsAt t (recalled t n) k
 recalled-keeps t n k e there = elim (cases_Bool (is_among (take n t.recall) k)) [
@@ -152,7 +152,7 @@ module _ (old : State) (k : Holder) (cap : Cap) (held : holds old.scene k cap �
       no_loss first (same-keeps t first.table k (ap (λ (u : Table). entry_at u k) left ∙ entry_at-without_client_other t client k (apart_client k.client client off))) gone)
 
   opened-keeps : (j : Holder) (mode : OpenMode) → KeepsAt t (with_opening t j mode) k
-  opened-keeps j mode e there = changed-keeps (with_entry t j) j k _ (λ f. refl) e (entry-kept t j k e there)
+  opened-keeps j mode e there = changed-keeps (with_entry t j) j k _ (λ f. refl) e (entry-still t j k e there)
 
   acked-own : (j : Holder) (first : Scene) → first.table ≡ acked t j (revoked_of old.scene j) → holds first k cap ≡ false → same k j ≡ true
   acked-own j first left gone = true_from_ne_false (same k j) (λ off.

@@ -52,13 +52,13 @@ module _ (sized : List Ino) (t : Table) where
   same_any : (q : ℕ) (rows : List EntryRow) → list_any (is_of_inode (record { 0 = q })) (map sized_row rows) ≡ list_any (is_of_inode (record { 0 = q })) rows
   same_any q rows = any-map_same (is_of_inode (record { 0 = q })) sized_row (λ row. refl) rows
 
-  same_kept : (x : Scene) (q : ℕ) → is_in_use (with_sizes x) q ≡ is_in_use x q
-  same_kept x q = ap (λ b. not (is_gone (presence x.tree.nodes q)) || b) (same_any q x.table.rows)
+  same_use : (x : Scene) (q : ℕ) → is_in_use (with_sizes x) q ≡ is_in_use x q
+  same_use x q = ap (λ b. not (is_gone (presence x.tree.nodes q)) || b) (same_any q x.table.rows)
 
   -- ---- the end of a step, by the rules
 
   sizes-forgotten : (x : Scene) → forget (with_sizes x) ≡ with_sizes (forget x)
-  sizes-forgotten x = grind (arith, same_kept)
+  sizes-forgotten x = grind (arith, same_use)
 
   module _ (table : IsTable t) (s : Scene) (same : s.table ≡ t) where
     rows-owed : map (λ row. cond (is_sized sized row) (remade owed row) row) s.table.rows ≡ map sized_row s.table.rows
@@ -99,7 +99,7 @@ module _ (sized : List Ino) (t : Table) where
       where
         same_stays : (q : ℕ) → stays at (with_sizes (record s { table = changed_where (λ row. at row.holder.ino.0) (finished_entry known s) s.table })) q
             ≡ stays at (record s { table = changed_where (λ row. at row.holder.ino.0) (finished_entry known s) s.table }) q
-        same_stays q = ap (λ b. not (at q) || b) (same_kept (record s { table = changed_where (λ row. at row.holder.ino.0) (finished_entry known s) s.table }) q)
+        same_stays q = ap (λ b. not (at q) || b) (same_use (record s { table = changed_where (λ row. at row.holder.ino.0) (finished_entry known s) s.table }) q)
 
         ended_row : (row : EntryRow) (b : Bool) → cond b (remade (finished_entry known s) (sized_row row)) (sized_row row) ≡ sized_row (cond b (remade (finished_entry known s) row) row)
         ended_row row true = ap (λ (e : Entry). record row { entry = e }) (numbered (meet (known row.holder) row.entry.held) (pending_then s row) (issue_row s row))
@@ -113,13 +113,13 @@ module _ (sized : List Ino) (t : Table) where
 
     -- ---- what is kept of entries
 
-    told_owed : (row : EntryRow) (b h : Bool) → pending_then s (cond b (record row { entry = cond h (with_size_due true row.entry) row.entry }) row) ≡ pending_then s row
-    told_owed row b h = grind arith
+    pending_owed : (row : EntryRow) (b h : Bool) → pending_then s (cond b (record row { entry = cond h (with_size_due true row.entry) row.entry }) row) ≡ pending_then s row
+    pending_owed row b h = grind arith
 
     -- it is the same, whether sizes are to be told or not
     pub sizes-kept : (among : Holder → Bool) (was now : ClientViews) → KnownAnew among (pending_then (sizes_owed sized s)) (sizes_owed sized s).table was now
         → KnownAnew among (pending_then s) s.table was now
-    sizes-kept among was now kept = grind (arith, find-map, told_owed)
+    sizes-kept among was now kept = grind (arith, find-map, pending_owed)
 
 -- ---- of an event
 

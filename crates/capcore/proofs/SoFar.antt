@@ -31,17 +31,17 @@ use Rattle.capcore.specs.declared.settle.SweepPlace.{SweepPlace}
 
 -- these moves were made and these requests ended; nothing changed but at the inodes that are affected, among which are those of the
 -- event; elsewhere nothing moves, and who waits there is held up
-pub record IsSoFar (from : ℕ → Bool) (affected : InoSet) (first now : Scene) (for_clients : List Ended) (sized : List Ino) : Type 0 where
+pub record IsSoFar (from : ℕ → Bool) (affected : InoSet) (first now : Scene) (ended_now : List Ended) (sized : List Ino) : Type 0 where
   pub moves : List Made
   pub made : MakesAll first moves now
-  pub ended_is : for_clients ≡ ended_in moves
+  pub ended_is : ended_now ≡ ended_in moves
   pub sized_is : sized ≡ sized_in moves
   pub among : (other : ℕ) → from other ≡ true → set.contains affected other ≡ true
   pub same : IsSameOff (set.contains affected) first now
   pub states : (other : ℕ) → set.contains affected other ≡ false → map.get now.locks.states other ≡ map.get first.locks.states other
   pub still : AreStill (set.contains affected) now
   pub waits : WaitAt (set.contains affected) now
-  pub count : length for_clients + length now.locks.queue ≡ length first.locks.queue
+  pub count : length ended_now + length now.locks.queue ≡ length first.locks.queue
 
 -- ---- at first
 
@@ -106,7 +106,7 @@ abbrev pub GoesOnBehind : SweepPlace → Option Ino → InoSet → SweepPlace �
 GoesOnBehind place changed affected next =
     ((next ≡ place) × ((i : Ino) × (changed ≡ Some i) × (place.at.0 ≤ i.0))) ⊎ IsFirstPlace affected next
 
-module _ (from : ℕ → Bool) (affected : InoSet) (first now : Scene) (for_clients : List Ended) (sized : List Ino) (so : IsSoFar from affected first now for_clients sized) where
+module _ (from : ℕ → Bool) (affected : InoSet) (first now : Scene) (ended_now : List Ended) (sized : List Ino) (so : IsSoFar from affected first now ended_now sized) where
   -- ---- gathers began and ended
 
   module _ (new : Scene) (swept : IsSwept (set.contains affected) now new) where
@@ -119,11 +119,11 @@ module _ (from : ℕ → Bool) (affected : InoSet) (first now : Scene) (for_clie
     by_left : (P : Scene → Type 0) → P left → P new
     by_left P is = subst P (sym swept.is) is
 
-    pub so-far-swept : IsSoFar from affected first new for_clients sized
+    pub so-far-swept : IsSoFar from affected first new ended_now sized
     so-far-swept = grind (arith, makes-append, append-nil, filter_map-append, none-sized, by_left, off-trans, swept_off, still-stays)
 
   -- and where no move applies, it has settled
-  pub so-far-settled : first_move now ≡ Settled → SettlesWith (set.contains affected) from first now for_clients sized
+  pub so-far-settled : first_move now ≡ Settled → SettlesWith (set.contains affected) from first now ended_now sized
   so-far-settled rests = grind arith
 
   -- ---- a request was served
@@ -233,7 +233,7 @@ module _ (from : ℕ → Bool) (affected : InoSet) (first now : Scene) (for_clie
     cursor_served : IsCursorAtTheLeast kept new
     cursor_served = by_after (IsCursorAtTheLeast kept) cursor_after
 
-    pub so-far-served : IsSoFar from kept first new (for_clients ++ ended ∷ []) (sized ++ sized_in (Served q ended.outcome ∷ []))
+    pub so-far-served : IsSoFar from kept first new (ended_now ++ ended ∷ []) (sized ++ sized_in (Served q ended.outcome ∷ []))
     so-far-served = record {
       moves = so.moves ++ Served q ended.outcome ∷ [];
       made = makes-append first so.moves now (Served q ended.outcome ∷ []) new so.made (new, makes, refl);
@@ -253,7 +253,7 @@ module _ (from : ℕ → Bool) (affected : InoSet) (first now : Scene) (for_clie
           (waits-wider (set.contains affected) (set.contains kept) after wider (waits-less-at (set.contains affected) now (tree_after now.tree q ended.outcome) q.ticket.0 so.waits));
       count = (
           let queue : length new.locks.queue ≡ length (without_request now.locks q.ticket.0).queue = ap (λ (s : Scene). length s.locks.queue) is_after in
-          let more : length (for_clients ++ ended ∷ []) ≡ length for_clients + 1 = length-append for_clients (ended ∷ []) in
+          let more : length (ended_now ++ ended ∷ []) ≡ length ended_now + 1 = length-append ended_now (ended ∷ []) in
           let less = one-less now.locks q order inside in
           omega (arith, queue, more, less, so.count)
           );

@@ -43,11 +43,11 @@ same-number_row old s row found pending = ap (λ (e : Entry). record row { entry
 
 -- ---- strays
 
-pub kept_by : (p : Presence) (rest : Bool) → (p ≡ Gone → rest ≡ true) → (not (is_gone p) || rest) ≡ true
-kept_by p rest held = grind arith
+pub in_use_by : (p : Presence) (rest : Bool) → (p ≡ Gone → rest ≡ true) → (not (is_gone p) || rest) ≡ true
+in_use_by p rest held = grind arith
 
-pub same_kept : {X : Type 0} (m : finite.FinMap nat_cmp X) (p : ℕ → Bool) → ((q : ℕ) → p q ≡ true) → finite.retain_keys m p ≡ m
-same_kept m p all = finite.same_map nat_cmp_total finite.nat_cmp-IsAntisymmetric _ _ (λ q.
+pub all_retained : {X : Type 0} (m : finite.FinMap nat_cmp X) (p : ℕ → Bool) → ((q : ℕ) → p q ≡ true) → finite.retain_keys m p ≡ m
+all_retained m p all = finite.same_map nat_cmp_total finite.nat_cmp-IsAntisymmetric _ _ (λ q.
     finite.get-retain_keys m p q (λ x e. all x ∙ sym (all q)) ∙ ap (λ b. cond b (finite.get m q) None) (all q))
 
 -- ---- the end of a step
@@ -61,7 +61,7 @@ module _ (s : State) (sound : IsSound s) (table : IsTable s.scene.table) where
       has_issuable row inside = let entry = All-contains (IsSoundEntry s.scene) s.scene.table.rows row sound.entries inside in entry.has_issuable
 
   same-forget : forget s.scene ≡ s.scene
-  same-forget = grind (arith, same_kept)
+  same-forget = grind (arith, all_retained)
 
   -- where the clients are to know what they were to know on an older scene
   module _ (old : Scene) (pending : (row : EntryRow) → Contains s.scene.table.rows row → pending_of old row ≡ pending_of s.scene row) where

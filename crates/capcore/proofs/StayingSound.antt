@@ -11,7 +11,7 @@ use Rattle.capcore.proofs.CommonPieces.{AreGiven, Caps, ClientId, EntryRow, Gone
 use Rattle.capcore.proofs.CommonPieces.{IsTable, IsTree, Made, P, Part, Scene, SessionTable, State, Table, allowed_under, ended_in, find-filter_kept}
 use Rattle.capcore.proofs.CommonPieces.{has_session, is_of_inode, is_row_of, issuable, meet, presence, row_found, same-is, state_at_end}
 use Rattle.capcore.proofs.EndsThere.{off_issuable}
-use Rattle.capcore.proofs.EntryRequests.{IsKeptEntry, kept-left, kept-row}
+use Rattle.capcore.proofs.EntryRequests.{IsSoundInRow, sound-row, sound_in_row-left}
 use Rattle.capcore.proofs.Forgotten.{all_rows, sound-forgotten}
 use Rattle.capcore.proofs.IssuedRows.{by_place, effective-ended, ended_row, holds-issuable, holds-pin, in_row-ended, issued_at, last_row, of_inode-last, on_it}
 use Rattle.capcore.proofs.IssuedRows.{rest-issued, revoked-ended, seq-ended, told-ended, want-ended}
@@ -59,14 +59,14 @@ module _ (at from : ℕ → Bool) (known : Holder → Caps) (old affected : Stat
     of_its_inode k row is = ap (λ (h : Holder). h.ino.0 == k.ino.0) (sym (same-is k row.holder is)) ∙ nat_eq_equiv.refl k.ino.0
 
     -- what every state keeps of such a row, it keeps; so by itself the event leaves each row as one of its inode
-    kept_row : (row : EntryRow) → Contains rows row → from row.holder.ino.0 ≡ false → IsKeptEntry old.scene row
-    kept_row row inside off = kept-row old sound row (old_row row inside off) (grind (arith, find-filter_kept, of_its_inode, row_found, first_row))
+    sound_row : (row : EntryRow) → Contains rows row → from row.holder.ino.0 ≡ false → IsSoundInRow old.scene row
+    sound_row row inside off = sound-row old sound row (old_row row inside off) (grind (arith, find-filter_kept, of_its_inode, row_found, first_row))
 
     affected_row : (row : EntryRow) → Contains rows row → IsAffectedEntry first row
     affected_row row inside =
         elim (from row.holder.ino.0) as (λ b. from row.holder.ino.0 ≡ b → IsAffectedEntry first row) [
           | true ↦ λ is. affects.each row (first_row row inside) is
-          | false ↦ λ off. kept-left old.scene first row (ap is_some (affects.same.sessions row (old_row row inside off) off)) affects.states affects.exist (kept_row row inside off)
+          | false ↦ λ off. sound_in_row-left old.scene first row (ap is_some (affects.same.sessions row (old_row row inside off) off)) affects.states affects.exist (sound_row row inside off)
         ] refl
 
     -- ---- what is held is in its rows

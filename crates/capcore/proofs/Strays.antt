@@ -13,11 +13,11 @@ use Rattle.inotree.proofs.Elsewhere.{path_of-stays}
 use Rattle.inotree.specs.Tree.{IsUnder}
 use Rattle.inotree.specs.declared.node.Presence.TheVariants.{Here}
 use Rattle.capcore.proofs.CommonPieces.{EntryRow, Gone, InoSet, IsAlike, IsListOf, IsTree, Node, Nodes, Scene, is_in_use, is_of_inode, presence}
-use Rattle.capcore.proofs.SoundEnd.{same_kept}
+use Rattle.capcore.proofs.SoundEnd.{all_retained}
 use Rattle.capcore.proofs.ManyInodes.{same_number}
 use Rattle.capcore.specs.Affected.{forget_among, forget_at, stays}
 
--- ---- a map of which some keys are kept
+-- ---- a map of which some keys are retained
 
 module _ {V : Type 0} (m : map.FinMap nat_cmp V) (p : ℕ → Bool) (q : ℕ) where
   pub retained : map.get (map.retain_keys m p) q ≡ cond (p q) (map.get m q) None
@@ -31,12 +31,12 @@ module _ {V : Type 0} (m : map.FinMap nat_cmp V) (p : ℕ → Bool) (q : ℕ) wh
 
 -- ---- which inodes stay
 
--- an inode that somebody has an entry on is kept
-pub kept-held : (s : Scene) (row : EntryRow) → Contains s.table.rows row → is_in_use s row.holder.ino.0 ≡ true
-kept-held s row is = grind (arith, list_any_at)
+-- an inode that somebody has an entry on is in use
+pub in_use-held : (s : Scene) (row : EntryRow) → Contains s.table.rows row → is_in_use s row.holder.ino.0 ≡ true
+in_use-held s row is = grind (arith, list_any_at)
 
-pub stays-kept : (at : ℕ → Bool) (s : Scene) (q : ℕ) → is_in_use s q ≡ true → stays at s q ≡ true
-stays-kept at s q is = or_right (not (at q)) (is_in_use s q) is
+pub stays-in_use : (at : ℕ → Bool) (s : Scene) (q : ℕ) → is_in_use s q ≡ true → stays at s q ≡ true
+stays-in_use at s q is = or_right (not (at q)) (is_in_use s q) is
 
 -- what goes is one of these, and a stray that nobody has an entry on
 pub goes : (at : ℕ → Bool) (s : Scene) (q : ℕ) → stays at s q ≡ false
@@ -61,16 +61,16 @@ alike-retained tree p sound strays ino here = record {
 -- ---- one after another
 
 -- what is left of the one and then of the others
-twice_left : {V : Type 0} (p q kept later : Bool) (o : Option V) → ((not p || kept) ≡ true → later ≡ kept)
-    → cond (not q || later) (cond (not p || kept) o None) None ≡ cond (not (p || q) || kept) o None
-twice_left p q kept later o same = grind arith
+twice_left : {V : Type 0} (p q used later : Bool) (o : Option V) → ((not p || used) ≡ true → later ≡ used)
+    → cond (not q || later) (cond (not p || used) o None) None ≡ cond (not (p || q) || used) o None
+twice_left p q used later o same = grind arith
 
 module _ (p q : ℕ → Bool) (s : Scene) where
   abbrev one : Scene
   one = forget_among p s
 
-  twice_kept : {V : Type 0} (m : map.FinMap nat_cmp V) → map.retain_keys (map.retain_keys m (stays p s)) (stays q one) ≡ map.retain_keys m (stays (λ n. p n || q n) s)
-  twice_kept m = map.same_map nat_cmp_total map.nat_cmp-IsAntisymmetric _ _ (λ n.
+  twice_retained : {V : Type 0} (m : map.FinMap nat_cmp V) → map.retain_keys (map.retain_keys m (stays p s)) (stays q one) ≡ map.retain_keys m (stays (λ n. p n || q n) s)
+  twice_retained m = map.same_map nat_cmp_total map.nat_cmp-IsAntisymmetric _ _ (λ n.
       retained (map.retain_keys m (stays p s)) (stays q one) n
       ∙ ap (λ o. cond (stays q one n) o None) (retained m (stays p s) n)
       ∙ twice_left (p n) (q n) (is_in_use s n) (is_in_use one n) (map.get m n) (λ is. grind (arith, retained-here))
@@ -78,15 +78,15 @@ module _ (p q : ℕ → Bool) (s : Scene) where
 
   -- strays of some inodes and then of others go, as if of all at once
   pub forget-twice : forget_among q (forget_among p s) ≡ forget_among (λ n. p n || q n) s
-  forget-twice = grind (arith, twice_kept)
+  forget-twice = grind (arith, twice_retained)
 
 forget_none : (s : Scene) → forget_among (λ n. false) s ≡ s
-forget_none s = grind (arith, same_kept)
+forget_none s = grind (arith, all_retained)
 
--- where all keys but one are kept, that one goes or none
-kept_or_removed : {V : Type 0} (m : map.FinMap nat_cmp V) (p : ℕ → Bool) (k : ℕ) → ((q : ℕ) → q ≢ k → p q ≡ true)
+-- where all keys but one are retained, that one goes or none
+retained_or_removed : {V : Type 0} (m : map.FinMap nat_cmp V) (p : ℕ → Bool) (k : ℕ) → ((q : ℕ) → q ≢ k → p q ≡ true)
     → map.retain_keys m p ≡ cond (p k) m (map.remove m k)
-kept_or_removed m p k all = map.same_map nat_cmp_total map.nat_cmp-IsAntisymmetric _ _ (λ q.
+retained_or_removed m p k all = map.same_map nat_cmp_total map.nat_cmp-IsAntisymmetric _ _ (λ q.
     let here = same_or_other nat_cmp_total map.nat_cmp-IsAntisymmetric q k in
     grind (arith, here, retained, remove-here nat_cmp_total map.nat_cmp-IsAntisymmetric m k, remove-other nat_cmp_total map.nat_cmp-IsAntisymmetric m k q))
 
@@ -95,7 +95,7 @@ module _ (k : ℕ) (s : Scene) where
   others_stay q off = ap (λ b. not b || is_in_use s q) (ne_eqb q k off)
 
   one_left : {V : Type 0} (m : map.FinMap nat_cmp V) → map.retain_keys m (stays (λ n. n == k) s) ≡ cond (is_in_use s k) m (map.remove m k)
-  one_left m = kept_or_removed m (stays (λ n. n == k) s) k others_stay ∙ ap (λ b. cond (not b || is_in_use s k) m (map.remove m k)) (eq-eqb k k refl)
+  one_left m = retained_or_removed m (stays (λ n. n == k) s) k others_stay ∙ ap (λ b. cond (not b || is_in_use s k) m (map.remove m k)) (eq-eqb k k refl)
 
   -- of one inode alone
   forget-one : forget_among (λ n. n == k) s ≡ forget_at k s

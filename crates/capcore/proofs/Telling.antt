@@ -50,8 +50,8 @@ module _ (s : State) (told_as : EntryRow → ℕ) (size_as asked_as : EntryRow �
   same_open : (ino : ℕ) (part : Part) (goal : StableState) → is_open new ino part goal ≡ is_open s.scene ino part goal
   same_open ino part goal = grind (arith, same_on, any-map_same)
 
-  place_kept : (row : EntryRow) (part : Part) (o : Option LockState) → IsInPlace s.scene row part o → IsInPlace new (to row) part o
-  place_kept row part o placed = grind (arith, same_open)
+  place_stays : (row : EntryRow) (part : Part) (o : Option LockState) → IsInPlace s.scene row part o → IsInPlace new (to row) part o
+  place_stays row part o placed = grind (arith, same_open)
 
   -- ---- all together
 
@@ -64,7 +64,7 @@ module _ (s : State) (told_as : EntryRow → ℕ) (size_as asked_as : EntryRow �
     messages = connected;
     locked = sound.locked;
     strays = λ ino gone. any-map_same (is_of_inode (record { 0 = ino })) to (λ row. refl) s.scene.table.rows ∙ sound.strays ino gone;
-    in_place = λ row part found. grind (arith, same_found, place_kept);
+    in_place = λ row part found. grind (arith, same_found, place_stays);
     at_rest = record { each = λ ino part. still_resting s.scene new ino part refl (same_wants ino) (same_open ino part) (lock_at s.scene.locks ino part) (sound.at_rest.each ino part) };
   }
 

@@ -81,11 +81,11 @@ ends-without_memory s q o free takes ends = subst (MayEndAs s q) (sym ends) (Wit
 pub tree-rejection : (tree : Nodes) (q : Request) (rejection : Rejection) (o : Outcome) → o ≡ rejection_outcome rejection → tree ≡ tree_after tree q o
 tree-rejection tree q rejection o is = grind arith
 
-told-tree : (tree : Nodes) (q : Request) (part : Part) (node : Option Node) (same : tree_with tree q.ino.0 q.operation ≡ tree) → tree_with tree q.ino.0 q.operation ≡ tree_after tree q (values_outcome part node)
-told-tree tree q part node same = grind arith
+values-tree : (tree : Nodes) (q : Request) (part : Part) (node : Option Node) (same : tree_with tree q.ino.0 q.operation ≡ tree) → tree_with tree q.ino.0 q.operation ≡ tree_after tree q (values_outcome part node)
+values-tree tree q part node same = grind arith
 
 passed_tree : (s : Scene) (q : Request) (operation : Operation) → q.operation ≡ operation → tree_with s.tree q.ino.0 q.operation ≡ tree_after s.tree q (passed_as s q.ino.0 operation)
-passed_tree s q operation is = grind (arith, told-tree)
+passed_tree s q operation is = grind (arith, values-tree)
 
 pub tree-passed : (s : Scene) (q : Request) → tree_with s.tree q.ino.0 q.operation ≡ tree_after s.tree q (passed_as s q.ino.0 q.operation)
 tree-passed s q = passed_tree s q q.operation refl

@@ -10,7 +10,7 @@ use std::alloc::Global;
 // The grants that the text means, or None where it means some and no memory was left for them.
 pub(crate) fn read_text(alloc: Global, text: &[u8]) -> Result<Option<Grants>, SpecFault>
     ensures good { OnOk result ((grants : List AGrant) × Reads text.now grants) }
-    ensures kept { IfOk result (λ kept. IfSome kept (Reads text.now)) }
+    ensures found { IfOk result (λ found. IfSome found (Reads text.now)) }
     ensures err { IfErr result (IsFault text.now) }
 {
     match read_grants(alloc, text) {

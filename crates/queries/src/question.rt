@@ -188,7 +188,7 @@ impl Question {
 // The grants that the text means, or None where it means some and no memory was left for them.
 fn read_given_grants(alloc: Global, text: &[u8]) -> Result<Option<Grants>, QuestionFault>
     ensures good { OnOk result ((grants : List AGrant) × Reads text.now grants) }
-    ensures kept { IfOk result (λ kept. IfSome kept (Reads text.now)) }
+    ensures found { IfOk result (λ found. IfSome found (Reads text.now)) }
     ensures err { IfErr result (λ fault. (refused : ASpecFault) × (fault ≡ QuestionFault.Grants refused) × IsFault text.now refused) }
 {
     read_text(alloc, text).map_err(QuestionFault::Grants)
@@ -197,7 +197,7 @@ fn read_given_grants(alloc: Global, text: &[u8]) -> Result<Option<Grants>, Quest
 /// The path of the inode, or None where the text names one and no memory was left for it.
 pub(crate) fn read_path(alloc: Global, text: &[u8]) -> Result<Option<TreePath>, QuestionFault>
     ensures good { OnOk result ((names : List (List ℕ)) × ArePathNames text.now names) }
-    ensures kept { IfOk result (λ kept. IfSome kept (ArePathNames text.now)) }
+    ensures found { IfOk result (λ found. IfSome found (ArePathNames text.now)) }
     ensures err { IfErr result (λ fault. (fault ≡ QuestionFault.BadValue Opt.Path)
         × ((names : List (List ℕ)) → ¬ ArePathNames text.now names)) }
 {

@@ -18,18 +18,18 @@ abbrev pub moved : List Row → List Row → ℕ → Type 0
 moved xs ys n = Unit {0}
 
 -- the rule, where there is no row more, and as many words are away
-kept_same : (n : ℕ) (log : List Row) (away : ℕ) → n ≡ 2 * length log + away → IsStored ((n, true) ∷ (0, true) ∷ words_of (length log) away) (log ++ [])
-kept_same n log away e = subst (IsStored ((n, true) ∷ (0, true) ∷ words_of (length log) away)) (sym (append-nil log)) (record { away = away; cells_are = ap (λ (k : ℕ). (k, true) ∷ (0, true) ∷ words_of (length log) away) e })
+stored_same : (n : ℕ) (log : List Row) (away : ℕ) → n ≡ 2 * length log + away → IsStored ((n, true) ∷ (0, true) ∷ words_of (length log) away) (log ++ [])
+stored_same n log away e = subst (IsStored ((n, true) ∷ (0, true) ∷ words_of (length log) away)) (sym (append-nil log)) (record { away = away; cells_are = ap (λ (k : ℕ). (k, true) ∷ (0, true) ∷ words_of (length log) away) e })
 
 -- and where one word more is away
-kept_made : (n : ℕ) (log : List Row) (away : ℕ) → n ≡ 2 * length log + (away + 1) → IsStored ((n, true) ∷ (0, true) ∷ (words_of (length log) away ++ (0, false) ∷ [])) (log ++ [])
-kept_made n log away e =
-    subst (λ (ws : List Cell). IsStored ((n, true) ∷ (0, true) ∷ ws) (log ++ [])) (sym (words_more (length log) away)) (kept_same n log (away + 1) e)
+stored_made : (n : ℕ) (log : List Row) (away : ℕ) → n ≡ 2 * length log + (away + 1) → IsStored ((n, true) ∷ (0, true) ∷ (words_of (length log) away ++ (0, false) ∷ [])) (log ++ [])
+stored_made n log away e =
+    subst (λ (ws : List Cell). IsStored ((n, true) ∷ (0, true) ∷ ws) (log ++ [])) (sym (words_more (length log) away)) (stored_same n log (away + 1) e)
 
 -- and where a row was added, and its word came home
-kept_added : (n : ℕ) (log : List Row) (row : Row) (away left k : ℕ) → n ≡ 2 * (length log + 1) + left → away ≡ left + 1 → k ≡ length log
+stored_added : (n : ℕ) (log : List Row) (row : Row) (away left k : ℕ) → n ≡ 2 * (length log + 1) + left → away ≡ left + 1 → k ≡ length log
     → IsStored (set ((n, true) ∷ (0, true) ∷ words_of (length log) away) (k + 2) (0, true)) (log ++ row ∷ [])
-kept_added n log row away left k e one at =
+stored_added n log row away left k e one at =
     let more : length (log ++ row ∷ []) ≡ suc (length log) = omega (arith, length-append log (row ∷ [])) in
     let home : set (words_of (length log) away) k (0, true) ≡ words_of (length (log ++ row ∷ [])) left =
     ap (λ (j : ℕ). set (words_of (length log) away) j (0, true)) at ∙ (words_home (length log) away left (omega arith) ∙ ap (λ (j : ℕ). words_of j left) (sym more)) in
@@ -52,7 +52,7 @@ makes_goes log v e old away out is few pre true found =
       [],
       None,
       tt,
-      kept_made _ log away n,
+      stored_made _ log away n,
       inl (refl, refl),
       rw found (refl, key),
     )
@@ -62,7 +62,7 @@ makes_goes log v e old away out is few pre false found =
       [],
       None,
       tt,
-      kept_same _ log away n,
+      stored_same _ log away n,
       inl (refl, refl),
       rw found tt,
     )
@@ -92,7 +92,7 @@ adds_goes log v e old away is pre out true found =
       e ∷ [],
       None,
       refl,
-      kept_added _ log e away 1 (length v) n (omega (arith, many, here, is)) many,
+      stored_added _ log e away 1 (length v) n (omega (arith, many, here, is)) many,
       inl (refl, refl),
       rw found (ap (λ w. w ++ e ∷ []) (sym same)),
     )
@@ -102,7 +102,7 @@ adds_goes log v e old away is pre out false found =
       [],
       None,
       tt,
-      kept_same _ log away n,
+      stored_same _ log away n,
       inl (refl, refl),
       rw found refl,
     )
@@ -139,7 +139,7 @@ looks_goes log v rows e away out =
       [],
       None,
       tt,
-      kept_same _ log away n,
+      stored_same _ log away n,
       inl (refl, refl),
       (omega (arith, length-append log [], few), refl),
     )

@@ -86,7 +86,7 @@ impl<L: Server> Publisher<L> {
         requires room { length history.now ≤ 4294967295 }
         ensures shown { self.new.shown ≡ self.old.shown }
         ensures begins { IsPrefix self.new.rows history.now }
-        ensures kept { self.new.lost ≡ false → self.old.lost ≡ false }
+        ensures lost { self.new.lost ≡ false → self.old.lost ≡ false }
         ensures rows { self.new.lost ≡ false → self.new.rows ≡ history.now }
         ensures view { self.new.lost ≡ false → self.new.view ≡ fold view_by self.old.view changes.now }
     {
@@ -110,7 +110,7 @@ impl<L: Server> Publisher<L> {
         requires room { length history.now ≤ 4294967295 }
         ensures shown { self.new.shown ≡ self.old.shown }
         ensures begins { IsPrefix self.new.rows history.now }
-        ensures kept { self.old.lost ≡ false → self.new ≡ self.old }
+        ensures unchanged { self.old.lost ≡ false → self.new ≡ self.old }
         ensures rows { self.old.lost ≡ true → self.new.lost ≡ false → self.new.rows ≡ history.now }
         ensures view { self.old.lost ≡ true → self.new.lost ≡ false → self.new.view ≡ record { tree = tree.now; sessions = sessions.now.sessions } }
     {

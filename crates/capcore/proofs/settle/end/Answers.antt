@@ -102,7 +102,7 @@ pub returns-in-Entry-clause-ends : goal.returns-in-Entry-clause-ends
 returns-in-Entry-clause-ends c =
     let here = (goal.at.returns-in-Entry-clause-ends c).After-settle in
     rw c.in-Entry.is
-    (subst (λ (for_clients : List Ended). EndsWith (λ other. other == ino here) c.args.scene.now.table.kept c.finish.new.scene.table.kept (plain c.args.scene.now) (plain c.finish.new.scene) for_clients)
+    (subst (λ (ended_now : List Ended). EndsWith (λ other. other == ino here) c.args.scene.now.table.kept c.finish.new.scene.table.kept (plain c.args.scene.now) (plain c.finish.new.scene) ended_now)
     (sym (ap (λ (e : StepOutput). e.given.items) c.finish.ensures.rest))
     (ends_there here c.settle.new.output.sized.items refl c.finish.new.scene.table.kept (plain c.finish.new.scene) c.finish.ensures.ends))
 
@@ -131,7 +131,7 @@ pub returns-clause-ends : goal.returns-clause-ends
 returns-clause-ends c =
     let settled : Scene = plain c.settle-in-Inodes.new.scene in
     rw c.in-Inodes.is
-    (subst (λ (for_clients : List Ended). EndsWith (set.contains c.in-Inodes.inos) c.args.scene.now.table.kept c.finish-in-Inodes.new.scene.table.kept (plain c.args.scene.now) (plain c.finish-in-Inodes.new.scene) for_clients)
+    (subst (λ (ended_now : List Ended). EndsWith (set.contains c.in-Inodes.inos) c.args.scene.now.table.kept c.finish-in-Inodes.new.scene.table.kept (plain c.args.scene.now) (plain c.finish-in-Inodes.new.scene) ended_now)
     (sym (ap (λ (e : StepOutput). e.given.items) c.finish-in-Inodes.ensures.rest))
     (settled-ends (set.contains c.settle-in-Inodes.new.affected) (set.contains c.in-Inodes.inos) c.args.scene.now.table.kept c.settle-in-Inodes.new.scene.table.kept c.finish-in-Inodes.new.scene.table.kept
     (plain c.args.scene.now) settled (plain c.finish-in-Inodes.new.scene) c.settle-in-Inodes.new.output.given.items c.settle-in-Inodes.new.output.sized.items

@@ -55,7 +55,7 @@ servings-init c =
     let room = c.requires.room in
     record {
       so_far =
-          subst (λ (for_clients : List Ended). IsSoFar at c.args.affected.now first now for_clients c.args.output.now.sized.items) (sym c.requires.room.given)
+          subst (λ (ended_now : List Ended). IsSoFar at c.args.affected.now first now ended_now c.args.output.now.sized.items) (sym c.requires.room.given)
           (subst (IsSoFar at c.args.affected.now first now []) (sym c.requires.room.sized) so);
       stands = stands-first c.args.affected.now now c.first-place.result (cursor-at_first c.args.affected.now now so.still c.end_gathers.ensures.ends) so.waits c.first-place.ensures;
       walked = none-walked c.new-walked.result c.args.scene.now.tree c.args.scene.now.table.entries c.args.affected.now c.new-walked.ensures;
@@ -210,7 +210,7 @@ holds c next goes =
     let is = stays (before_serving c) in
     record {
       so_far =
-          subst (λ (for_clients : List Ended). IsSoFar (from (before_serving c)) c.serve_next-changed.new.affected (first (before_serving c)) (new c) for_clients c.serve_next-changed.new.output.sized.items) (sym all.2)
+          subst (λ (ended_now : List Ended). IsSoFar (from (before_serving c)) c.serve_next-changed.new.affected (first (before_serving c)) (new c) ended_now c.serve_next-changed.new.output.sized.items) (sym all.2)
           (subst (IsSoFar (from (before_serving c)) c.serve_next-changed.new.affected (first (before_serving c)) (new c) (c.servings.output.given.items ++ ended c ∷ [])) (sym sizes) (served c));
       stands =
           stands-behind (from (before_serving c)) c.servings.affected (first (before_serving c)) (mid (before_serving c)) c.servings.output.given.items c.servings.output.sized.items (swept (before_serving c))

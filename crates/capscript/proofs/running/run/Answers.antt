@@ -16,17 +16,17 @@ never_long : {S T : Type 0} (known old new : Option (List ℕ)) (read : Result S
 never_long None old new read script result is long = tt
 never_long (Some all) old new read script result is long = λ more. absurd (elim (long more) [ inl stop ↦ cc | inr stop ↦ cc ])
 
-never_told : {S P : Type 0} (read : Result S ScriptFault) (script : S) → read ≡ Ok script → read ≡ Err stops.ReadFault → P
-never_told read script is reported = absurd (cc)
+never_reported : {S P : Type 0} (read : Result S ScriptFault) (script : S) → read ≡ Ok script → read ≡ Err stops.ReadFault → P
+never_reported read script is reported = absurd (cc)
 
 same_stop : {S T : Type 0} (read : Result S ScriptFault) (result : Result T ScriptFault) (fault stop : ScriptFault) → read ≡ Err fault → result ≡ Err fault → read ≡ Err stop → result ≡ Err stop
 same_stop read result fault stop was is reported = let same : fault ≡ stop = cc in cc
 
 -- and where none was read, and nothing was written
-long_told : {S T : Type 0} (known written : Option (List ℕ)) (read : Result S ScriptFault) (result : Result T ScriptFault) (fault : ScriptFault) → read ≡ Err fault → result ≡ Err fault → IfSome known (λ all. longest_script < length all → (read ≡ Err stops.ReadFault) ⊎ (read ≡ Err stops.NoMemory))
+long_reported : {S T : Type 0} (known written : Option (List ℕ)) (read : Result S ScriptFault) (result : Result T ScriptFault) (fault : ScriptFault) → read ≡ Err fault → result ≡ Err fault → IfSome known (λ all. longest_script < length all → (read ≡ Err stops.ReadFault) ⊎ (read ≡ Err stops.NoMemory))
     → IfSome known (λ all. longest_script < length all → ((result ≡ Err stops.ReadFault) ⊎ (result ≡ Err stops.NoMemory)) × Appends written written [])
-long_told None written read result fault was is long = tt
-long_told (Some all) written read result fault was is long = λ more.
+long_reported None written read result fault was is long = tt
+long_reported (Some all) written read result fault was is long = λ more.
     (elim (long more) [ inl stop ↦ inl (same_stop read result fault stops.ReadFault was is stop) | inr stop ↦ inr (same_stop read result fault stops.NoMemory was is stop) ], none_appended written)
 
 -- memory was missed for the core
@@ -73,7 +73,7 @@ returns-in-Ok-clause-ran g c =
     c.in-Ok.script.items (has_ended c.read_script.new.reader) c.answer_script.result r.ok r.end r.seen a.read a.ran
 
 pub returns-in-Ok-clause-read_failed : goal.returns-in-Ok-clause-read_failed
-returns-in-Ok-clause-read_failed g c = λ set. never_told (Ok c.in-Ok.script) c.in-Ok.script refl (c.in-Ok.ensures.reported set)
+returns-in-Ok-clause-read_failed g c = λ set. never_reported (Ok c.in-Ok.script) c.in-Ok.script refl (c.in-Ok.ensures.reported set)
 
 pub returns-in-Ok-clause-long : goal.returns-in-Ok-clause-long
 returns-in-Ok-clause-long g c =
@@ -93,7 +93,7 @@ returns-in-Err-clause-read_failed g c = λ set. same_stop (Err c.in-Err.fault) (
 
 pub returns-in-Err-clause-long : goal.returns-in-Err-clause-long
 returns-in-Err-clause-long g c =
-    long_told (g.R.Read.remaining (inner_of c.args.reader.now)) (g.W.Write.contents (inner_of c.args.writer.now)) (Err c.in-Err.fault) (Err c.in-Err.fault) c.in-Err.fault refl refl c.in-Err.ensures.long
+    long_reported (g.R.Read.remaining (inner_of c.args.reader.now)) (g.W.Write.contents (inner_of c.args.writer.now)) (Err c.in-Err.fault) (Err c.in-Err.fault) c.in-Err.fault refl refl c.in-Err.ensures.long
 
 pub returns-in-Err-clause-read : goal.returns-in-Err-clause-read
 returns-in-Err-clause-read g c = λ is.

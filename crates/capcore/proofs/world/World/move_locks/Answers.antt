@@ -56,8 +56,8 @@ module _ (c : After-end) where
   abbrev output : StepOutput
   output = c.begin.new.output
 
-  abbrev for_clients : List Ended
-  for_clients = c.end.new.output.given.items
+  abbrev ended_now : List Ended
+  ended_now = c.end.new.output.given.items
 
   abbrev e : Event
   e = event_of c.args.lock_event.now
@@ -78,16 +78,16 @@ module _ (c : After-end) where
   begun = c.in_ok-affected.ensures.begun
 
   kept : AreKept last.scene.table.kept (plain last.scene)
-  kept = let ends = c.end.ensures.ends in (ended-known p q output e effect may begun last.scene.table.kept (plain last.scene) for_clients ends, ends.permitted)
+  kept = let ends = c.end.ensures.ends in (ended-known p q output e effect may begun last.scene.table.kept (plain last.scene) ended_now ends, ends.permitted)
 
 pub close-requires : goal.close-requires
 close-requires g =
     let c = (goal.at.close-requires g).After-end in
     record {
-      differ = ended-numbers (p c) (q c) (output c) (e c) (effect c) (may c) (begun c) (last c).scene.table.kept (plain (last c).scene) (for_clients c) c.end.ensures.ends;
+      differ = ended-numbers (p c) (q c) (output c) (e c) (effect c) (may c) (begun c) (last c).scene.table.kept (plain (last c).scene) (ended_now c) c.end.ensures.ends;
       recorded = c.end.ensures.recorded;
       room = omega (arith, c.end.ensures.count, (begun c).room);
-      places = fewer-places (effect c).reply_due (length (q c).scene.locks.locks.queue) (length (for_clients c)) (omega (arith, c.end.ensures.count)) (begun c).places;
+      places = fewer-places (effect c).reply_due (length (q c).scene.locks.locks.queue) (length (ended_now c)) (omega (arith, c.end.ensures.count)) (begun c).places;
       known = (kept c).0;
     }
 
@@ -99,7 +99,7 @@ module _ (g : After-close) where
   new = g.close.new.self
 
   abbrev left : List Ended
-  left = (q c).messages.items ++ earlier_of (effect c).reply_due (for_clients c)
+  left = (q c).messages.items ++ earlier_of (effect c).reply_due (ended_now c)
 
   abbrev closed : State
   closed = record { scene = plain (last c).scene; messages = left }
@@ -115,7 +115,7 @@ module _ (g : After-close) where
 
   whole : IsReplied (state_of (p c)) (e c) g.close.result (state_of new)
   whole =
-      ended-replied (p c) (q c) (output c) (e c) (effect c) (may c) (begun c) (last c).scene.table.kept (plain (last c).scene) (for_clients c) g.end.ensures.ends g.close.result (state_of new)
+      ended-replied (p c) (q c) (output c) (e c) (effect c) (may c) (begun c) (last c).scene.table.kept (plain (last c).scene) (ended_now c) g.end.ensures.ends g.close.result (state_of new)
       (g.close.ensures.reply left) g.close.ensures.ended new_is
 
 pub returns-clause-replied : goal.returns-clause-replied
@@ -124,8 +124,8 @@ returns-clause-replied g = subst (λ (s : State). IsReplied s (e (c g)) g.close.
 pub invariant_of-self-2 : goal.invariant_of-self-2
 invariant_of-self-2 g =
     let w = whole g in
-    let items = ap length (items g) ∙ length-append (q (c g)).messages.items (earlier_of (effect (c g)).reply_due (for_clients (c g))) in
-    let few = few-earlier (effect (c g)).reply_due (for_clients (c g)) in
+    let items = ap length (items g) ∙ length-append (q (c g)).messages.items (earlier_of (effect (c g)).reply_due (ended_now (c g))) in
+    let few = few-earlier (effect (c g)).reply_due (ended_now (c g)) in
     let queue = ap (λ (s : Scene). length s.locks.queue) (rest g) in (
       w.sound,
       omega (arith, items, few, queue, g.close.ensures.room, g.end.ensures.count, (begun (c g)).room),

@@ -27,7 +27,7 @@ publish-publisher-requires g c =
     let core = c.self.inside.core in
     let calls = c.self.inside.calls.total in
     let mended = held_mended core calls c.self.inside.publisher c.take.result c.in-Some.publisher c.mend.new.self c.history.result.now (record { tree = c.tree.result.now; sessions = c.sessions.result.now.sessions })
-    c.self.invariant.4 c.take.ensures.value c.in-Some.is c.history.ensures.rows (λ i. record { tree = c.tree.ensures i; sessions = (c.sessions.ensures i).sessions }) c.mend.ensures.begins c.mend.ensures.kept c.mend.ensures.rows c.mend.ensures.view in
+    c.self.invariant.4 c.take.ensures.value c.in-Some.is c.history.ensures.rows (λ i. record { tree = c.tree.ensures i; sessions = (c.sessions.ensures i).sessions }) c.mend.ensures.begins c.mend.ensures.unchanged c.mend.ensures.rows c.mend.ensures.view in
     ready_of o core calls c.mend.new.self c.self.invariant.2.replays mended c.history.ensures.legal.legal.numbered
 
 pub invariant_of-self : goal.invariant_of-self
@@ -35,7 +35,7 @@ invariant_of-self g c =
     let core = c.self.inside.core in
     let calls = c.self.inside.calls.total in
     let mended = held_mended core calls c.self.inside.publisher c.take.result c.in-Some.publisher c.mend.new.self c.history.result.now (record { tree = c.tree.result.now; sessions = c.sessions.result.now.sessions })
-    c.self.invariant.4 c.take.ensures.value c.in-Some.is c.history.ensures.rows (λ i. record { tree = c.tree.ensures i; sessions = (c.sessions.ensures i).sessions }) c.mend.ensures.begins c.mend.ensures.kept c.mend.ensures.rows c.mend.ensures.view in
+    c.self.invariant.4 c.take.ensures.value c.in-Some.is c.history.ensures.rows (λ i. record { tree = c.tree.ensures i; sessions = (c.sessions.ensures i).sessions }) c.mend.ensures.begins c.mend.ensures.unchanged c.mend.ensures.rows c.mend.ensures.view in
     (c.self.invariant.0, c.self.invariant.1, c.self.invariant.2, c.self.invariant.3, subst (λ (q : Option Publishing). MatchOption q ⊥ (IsHeld core calls)) (sym c.put_back.ensures) (held_shown core calls c.mend.new.self c.publish-publisher.result.0 mended c.publish-publisher.ensures.same))
 
 pub returns-clause-all : goal.returns-clause-all
@@ -43,5 +43,5 @@ returns-clause-all g c =
     let core = c.self.inside.core in
     let calls = c.self.inside.calls.total in
     let mended = held_mended core calls c.self.inside.publisher c.take.result c.in-Some.publisher c.mend.new.self c.history.result.now (record { tree = c.tree.result.now; sessions = c.sessions.result.now.sessions })
-    c.self.invariant.4 c.take.ensures.value c.in-Some.is c.history.ensures.rows (λ i. record { tree = c.tree.ensures i; sessions = (c.sessions.ensures i).sessions }) c.mend.ensures.begins c.mend.ensures.kept c.mend.ensures.rows c.mend.ensures.view in
+    c.self.invariant.4 c.take.ensures.value c.in-Some.is c.history.ensures.rows (λ i. record { tree = c.tree.ensures i; sessions = (c.sessions.ensures i).sessions }) c.mend.ensures.begins c.mend.ensures.unchanged c.mend.ensures.rows c.mend.ensures.view in
     all_of c.mend.new.self core.rows c.args.self.now.rows c.publish-publisher.result.1 mended.whole (ap (λ (t : CoreValue). t.rows) c.self.view_is) c.publish-publisher.ensures.all

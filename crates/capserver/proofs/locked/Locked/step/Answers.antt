@@ -48,5 +48,5 @@ invariant_of-self-2 g c =
       history.legal.legal.numbered,
       held_next c.self.inside.core c.make.new.core (pass_id c.args.pass.now) c.args.event c.in_ok-reply.reply c.self.inside.calls.total c.make.new.calls.total c.in-Some.publisher.now after c.last_changes.result.now held made.next c.in_ok-reply.ensures.book
           (subst (λ (changes : List ViewChange). AreChanges changes (view_of c.self.inside.core.state) (view_of c.make.new.core.state)) (sym c.last_changes.ensures) made.changes)
-          (subst (IsPrefix after.rows) history.rows c.follow.ensures.begins) c.follow.ensures.kept (λ there. c.follow.ensures.rows there ∙ history.rows) c.follow.ensures.view,
+          (subst (IsPrefix after.rows) history.rows c.follow.ensures.begins) c.follow.ensures.lost (λ there. c.follow.ensures.rows there ∙ history.rows) c.follow.ensures.view,
     )
