@@ -1,5 +1,5 @@
 -- The texts of events: the lines that say them.
-use Rattle.std.specs.Prelude.{ℕ, List, [], ◌∷◌, ◌++◌, Option, Some, None, codes}
+use Rattle.std.specs.Prelude.{ℕ, List, [], ◌∷◌, ◌++◌, codes}
 use Rattle.std.specs.Fmt.{decimal}
 use Rattle.capbits.specs.declared.ids.ClientId.{ClientId}
 use Rattle.capbits.specs.declared.ids.Ino.{Ino}
@@ -15,7 +15,6 @@ use Rattle.capstep.specs.declared.event.Event.TheVariants as event
 use Rattle.capstep.specs.declared.change_word.ChangeWord.{ChangeWord}
 use Rattle.capstep.specs.declared.change_word.ChangeWord.TheVariants as words
 use Rattle.texts.specs.PartTexts.{groups_text, hex_text, mode_text}
-use Rattle.capstep.specs.Clients.{client_of}
 use Rattle.capstep.specs.Words.{change_word, command_of, command_word, open_word, part_word}
 
 -- ---- parts of lines
@@ -48,17 +47,16 @@ change_text (RemoveXattr name) = change_word words.RemoveXattr ++ codes " " ++ n
 
 -- ---- lines
 
--- a client, where there is one
-abbrev pub client_text : Option ClientId → List ℕ
-client_text (Some client) = codes " " ++ decimal client.0
-client_text None = []
-
 -- all behind the first word, each word behind a space
 abbrev pub arguments_text : Event → List ℕ
 arguments_text (event.Session client caller grants) =
     codes " " ++ decimal client.0 ++ codes " " ++ decimal caller.uid ++ codes " " ++ decimal caller.gid ++ codes " "
     ++ groups_text caller.groups ++ codes " " ++ grants_text grants
+arguments_text (event.CloseSession client) = codes " " ++ decimal client.0
+arguments_text (event.Mark client status) = codes " " ++ decimal client.0
 arguments_text (event.Regrant client grants) = codes " " ++ decimal client.0 ++ codes " " ++ grants_text grants
+arguments_text (event.Evict client) = codes " " ++ decimal client.0
+arguments_text (event.Unblock client) = codes " " ++ decimal client.0
 arguments_text (event.Recall count) = codes " " ++ decimal count
 arguments_text (event.Lookup client dir name) = named_text client dir name
 arguments_text (event.Create client dir name mode) = named_text client dir name ++ codes " " ++ mode_text mode
@@ -77,7 +75,6 @@ arguments_text (event.Rename client ino dir name) =
     codes " " ++ decimal client.0 ++ codes " " ++ decimal ino.0 ++ codes " " ++ decimal dir.0 ++ codes " " ++ name
 arguments_text (event.Flush client ino change) = named_text client ino (change_text change)
 arguments_text (event.Poll client max) = codes " " ++ decimal client.0 ++ codes " " ++ decimal max
-arguments_text e = client_text (client_of e)
 
 -- the line that says the event, without its line feed
 abbrev pub event_text : Event → List ℕ

@@ -3,7 +3,7 @@ ghost use Rattle.std.specs.Prelude.{◌≡◌, ◌++◌, codes, IfOk, OnOk};
 ghost use Rattle.std.specs.Fmt.{decimal};
 ghost use Rattle.std.specs.List.{flat_map};
 ghost use Rattle.capbits.specs.Text.{text_of};
-ghost use Rattle.capexplain.specs.EventTexts.{arguments_text, change_text, client_text, event_text, grants_text, named_text, numbered_text, setting_text};
+ghost use Rattle.capexplain.specs.EventTexts.{arguments_text, change_text, event_text, grants_text, named_text, numbered_text, setting_text};
 ghost use Rattle.texts.specs.PartTexts.{groups_text, mode_text};
 ghost use Rattle.capstep.specs.Words.{open_word, part_word};
 
@@ -93,18 +93,10 @@ fn print_arguments(text: &mut Vec<u8>, event: &Event) -> Result<(), AllocError>
         Event::Poll { client, max } => {
             print_numbers(text, &[u64::from(client.0), u64::from(*max)])
         },
-        // All others have nothing behind their client.
-        _ => print_client(text, event.client()),
-    }
-}
-
-// The client, where there is one.
-fn print_client(text: &mut Vec<u8>, client: Option<ClientId>) -> Result<(), AllocError>
-    ensures { OnOk result (text.new.items ≡ text.old.items ++ client_text client) }
-{
-    match client {
-        Some(client) => print_numbered(text, " ", u64::from(client.0)),
-        None => Ok(()),
+        Event::CloseSession { client }
+        | Event::Mark { client, .. }
+        | Event::Evict { client }
+        | Event::Unblock { client } => print_numbered(text, " ", u64::from(client.0)),
     }
 }
 
