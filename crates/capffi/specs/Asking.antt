@@ -43,6 +43,12 @@ IsTextTrouble text (troubles.Grants fault) = IsFault text fault
 IsTextTrouble text troubles.Memory = Unit {0}
 IsTextTrouble text trouble = ⊥
 
+-- what is said of a text that gives no path: that it means none, or that memory was missing for the one that it means
+abbrev pub IsPathTrouble : List ℕ → Trouble → Type 0
+IsPathTrouble text troubles.Path = IsFalse (are_few_and_short (names_of text))
+IsPathTrouble text troubles.Memory = IsTrue (are_few_and_short (names_of text))
+IsPathTrouble text trouble = ⊥
+
 -- the same of the values behind the grants: the one that is told means nothing, and those before it mean something
 abbrev pub IsValueTrouble : List ℕ → List ℕ → List ℕ → Question → Trouble → Type 0
 IsValueTrouble fs path groups q troubles.Fs = ¬ IsFsName fs

@@ -1,7 +1,8 @@
 //! What the texts and numbers of a call mean.
-ghost use Rattle.std.specs.Prelude.{◌≡◌, ◌<◌, ◌≤◌, length, MatchOption, MatchResult};
+ghost use Rattle.std.specs.Prelude.{◌≡◌, ◌<◌, ◌≤◌, length, IsTrue, MatchOption, MatchResult};
 ghost use Rattle.capspec.specs.Grants.{Reads};
-ghost use Rattle.capffi.specs.Asking.{IsJudged, IsPermitted, IsTextTrouble, IsTrouble, Means, access_of};
+ghost use Rattle.capspec.specs.Paths.{are_few_and_short, names_of};
+ghost use Rattle.capffi.specs.Asking.{IsJudged, IsPathTrouble, IsPermitted, IsTextTrouble, IsTrouble, Means, access_of};
 
 use crate::passed::Question;
 use crate::trouble::Trouble;
@@ -36,6 +37,17 @@ pub(crate) fn read_text(alloc: Global, text: &[u8]) -> Result<Grants, Trouble>
             SpecFaultKind::NoMemory => Err(Trouble::Memory),
             _ => Err(Trouble::Grants(fault)),
         },
+    }
+}
+
+/// The path that a text means.
+pub(crate) fn read_path(alloc: Global, text: &[u8]) -> Result<TreePath, Trouble>
+    ensures { MatchResult result (λ path. (path ≡ names_of text.now) × IsTrue (are_few_and_short path)) (IsPathTrouble text.now) }
+{
+    match TreePath::read(alloc, text) {
+        Ok(Some(path)) => Ok(path),
+        Ok(None) => Err(Trouble::Path),
+        Err(AllocError) => Err(Trouble::Memory),
     }
 }
 
@@ -78,11 +90,7 @@ fn read_question(
     let Some(groups) = read_groups(groups) else {
         return Err(Trouble::Groups);
     };
-    let path = match TreePath::read(alloc, path) {
-        Ok(Some(path)) => path,
-        Ok(None) => return Err(Trouble::Path),
-        Err(AllocError) => return Err(Trouble::Memory),
-    };
+    let path = read_path(alloc, path)?;
     let Some(mode) = read_mode(question.mode) else {
         return Err(Trouble::Mode);
     };

@@ -6,7 +6,7 @@ ghost use Rattle.capffi.specs.ByBlock.{IsBlockJudged, IsBlockJudgedOf, IsFast, I
 ghost use Rattle.capgrant.specs.Question.{question as asked};
 
 use crate::answering::tell_alone;
-use crate::asking::{read_access, read_mode};
+use crate::asking::{read_access, read_mode, read_path};
 use crate::block::{BLOCK_VERSION, Block};
 use crate::given::split_front;
 use crate::judging::{Case, verdict_of};
@@ -16,7 +16,7 @@ use crate::trouble::Trouble;
 use capbits::Mode;
 use capgrant::{Access, Attr, Verdict};
 use capspec::TreePath;
-use std::alloc::{AllocError, Global};
+use std::alloc::Global;
 
 /// Tells the answer of a block, whatever the groups of the caller, where that is soon seen: where the grants up to the first that
 /// allows, or all where none does, are for everybody. Else 0, and the whole verdict has to be asked for.
@@ -149,11 +149,8 @@ fn judge_other(
     requires few { length groups.now ≤ 16 }
     ensures { IsBlockJudged block.now text.now path.now groups.now question.now result }
 {
-    match TreePath::read(alloc, path) {
-        Ok(Some(path)) => judge_plain(block, text, bare_text(&path), groups, question),
-        Ok(None) => Err(Trouble::Path),
-        Err(AllocError) => Err(Trouble::Memory),
-    }
+    let path = read_path(alloc, path)?;
+    judge_plain(block, text, bare_text(&path), groups, question)
 }
 
 /// The text of a path that was read, without the slash in front.

@@ -8,6 +8,7 @@ ghost use Rattle.capffi.specs.ByMask.{IsFastOn, IsFastToMask, IsMaskJudged, IsMa
 ghost use Rattle.capffi.specs.ByMask.{mask_verdict_next, mask_verdict_of, verdict_on};
 
 use crate::answering::tell_alone;
+use crate::asking::read_path;
 use crate::block::Block;
 use crate::by_block::{bare_text, is_block, is_first_for_one, is_one_for_all};
 use crate::given::split_front;
@@ -17,8 +18,7 @@ use crate::plain::{MAX_FAST, is_plain_fast, plain, without_slash};
 use crate::trouble::Trouble;
 use capbits::Mode;
 use capgrant::{Access, Attr, Verdict};
-use capspec::TreePath;
-use std::alloc::{AllocError, Global};
+use std::alloc::Global;
 
 /// An access, and the verdict on it.
 #[derive(Drop)]
@@ -181,11 +181,8 @@ fn judge_other(
     requires { IsBlock block.now text.now }
     ensures { IsMaskJudged block.now text.now path.now groups.now check.now result }
 {
-    match TreePath::read(alloc, path) {
-        Ok(Some(path)) => judge_bare(block, text, bare_text(&path), groups, check),
-        Ok(None) => Err(Trouble::Path),
-        Err(AllocError) => Err(Trouble::Memory),
-    }
+    let path = read_path(alloc, path)?;
+    judge_bare(block, text, bare_text(&path), groups, check)
 }
 
 // What the grants of a block say to a mask, on a path without a slash in front.
