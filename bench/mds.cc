@@ -1,5 +1,5 @@
-// Asks the policy code of a ceph-mds of Debian, in its own process: preloaded, it takes the place of main. `bench/bench mds` builds and runs
-// it. It is what MDSAuthCaps of version 16 exports; the program's own globals are made before main.
+// Asks the policy code of Debian's ceph-mds of Ceph 16, in its own process: preloaded, it takes the place of main. `bench/bench count mds` and
+// `bench/bench mds --library` build and run it.
 //
 //     MDS_WORK="GRANTS NAMES IDS N"    N verdicts on a write, by the grants of `count policy`, read once
 //     MDS_TIME="GRANTS NAMES IDS N"    the time of one such verdict, of the program and of the library
@@ -8,10 +8,10 @@
 // In the place of the number of grants may stand `csi`, one grant for a directory as containers have it and an inode in it, or `beside`,
 // the same with an inode of another directory, which is denied.
 #include "baybowl.h"
+#include "mds_process.h"
 
 #include <algorithm>
 #include <chrono>
-#include <dlfcn.h>
 #include <cstdio>
 #include <cstdlib>
 #include <cstring>
@@ -51,19 +51,6 @@ std::string make_grants(int count, int depth, bool has_ids) {
         text += has_ids ? " uid=1000 gids=1000,1001" : "";
     }
     return text;
-}
-
-// The program looks at its context's settings before it logs, so there has to be one.
-bool make_context() {
-    using Make = void (*)(void *, unsigned, int, int);
-    auto make = reinterpret_cast<Make>(dlsym(RTLD_DEFAULT, "_ZN4ceph6common11CephContextC1Ej18code_environment_ti"));
-    auto context = static_cast<void **>(dlsym(RTLD_DEFAULT, "_ZN4ceph6global14g_ceph_contextE"));
-    if (make == nullptr || context == nullptr) {
-        return false;
-    }
-    *context = calloc(1, 1 << 20);
-    make(*context, 8, 0, 0);
-    return true;
 }
 
 // Random numbers that are the same wherever this runs.
@@ -530,6 +517,8 @@ int time_both(const Cell &cell) {
     return 0;
 }
 
+}  // namespace
+
 int run(int, char **, char **) {
     const char *ask_work = getenv("MDS_ASK"), *time_work = getenv("MDS_TIME"), *work = getenv("MDS_WORK");
     Cell cell;
@@ -550,14 +539,4 @@ int run(int, char **, char **) {
     }
     fflush(stdout);
     _Exit(status);
-}
-
-}  // namespace
-
-extern "C" int __libc_start_main(int (*main)(int, char **, char **), int argc, char **argv, void (*init)(), void (*fini)(),
-                                 void (*rtld_fini)(), void *stack_end) {
-    auto start = reinterpret_cast<decltype(&__libc_start_main)>(dlsym(RTLD_NEXT, "__libc_start_main"));
-    bool is_mds = dlsym(RTLD_DEFAULT, "_ZN11MDSAuthCaps13set_allow_allEv") != nullptr;
-    bool has_work = getenv("MDS_WORK") != nullptr || getenv("MDS_ASK") != nullptr || getenv("MDS_TIME") != nullptr;
-    return start(is_mds && has_work ? run : main, argc, argv, init, fini, rtld_fini, stack_end);
 }

@@ -10,7 +10,7 @@ within the bound.
 
 import subprocess
 
-from . import counting, mds
+from . import ceph, count_mds, counting
 from .count_policy import PARSES, VERDICTS
 from .places import LIBRARY, ROOT, be_there
 
@@ -20,7 +20,7 @@ BOUND = 0.7
 # How a block is asked, and what the table says of it.
 FORMS = {"own": "by a path as a server has it", "mask": "and by a mask", "once": "by a path with a slash in front"}
 # A directory as containers have it, with a path of 93 bytes: an inode in it, and one beside it, which is denied. What the MDS takes is
-# what `bench/bench mds` counted.
+# what `bench/bench count mds` counted.
 VOLUMES = {"csi": 261, "beside": 278}
 # The calls that there is nothing to compare with.
 OTHERS = {
@@ -65,14 +65,13 @@ def share(ours, theirs):
     return f"{ours:,.0f} | {ours / theirs:.3f}{'' if is_within(ours, theirs) else ' ABOVE'}"
 
 
-def by_block(is_mds_counted):
-    """A verdict by grants that were read once, and whether each is within the bound. Those of the MDS are counted too, where they are to
-    be."""
-    print(f"| grants read once | the MDS{', counted now' if is_mds_counted else ''} | {' | share | '.join(FORMS.values())} | share |\n|{'---|' * 8}")
+def by_block(measured=None):
+    """A verdict by grants that were read once, and whether each is within the bound. Those of the MDS are counted too, where it is given."""
+    print(f"| grants read once | the MDS{', counted now' if measured else ''} | {' | share | '.join(FORMS.values())} | share |\n|{'---|' * 8}")
     are_within = True
     for name, words, theirs in blocks():
-        if is_mds_counted:
-            theirs = mds.of_one(words[0], words[1], words[2] == "ids")
+        if measured:
+            theirs = measured.of_one(words[0], words[1], words[2] == "ids")
         ours = [of_one(form, *words) for form in FORMS]
         are_within = are_within and all(is_within(it, theirs) for it in ours)
         print(f"| {name} | {theirs:,.0f} | {' | '.join(share(it, theirs) for it in ours)} |", flush=True)
@@ -97,14 +96,13 @@ def of_one(*words):
 
 
 def arguments(parser):
-    parser.add_argument("--mds", action="store_true", help="the first table beside the ceph-mds that `bench/bench mds` fetches, counted now")
+    ceph.arguments(parser)
+    parser.add_argument("--mds", action="store_true", help="the first table beside Debian's ceph-mds, counted now")
 
 
 def main(given):
     build()
-    if given.mds:
-        mds.prepare()
-    are_within = by_block(given.mds)
+    are_within = by_block(count_mds.Measured(given.packages, given.mirror) if given.mds else None)
     print("\n| grants read each time | a verdict by the text | the MDS, text read and one verdict | share |\n|---|---|---|---|")
     for verdict, parse, kind in cells():
         ours = of_one(*words_of("verdict", verdict, kind))

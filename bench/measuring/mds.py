@@ -1,101 +1,97 @@
-"""Counts the instructions of a verdict of a real MDS, as `count library` does those of the library: the same grants, the same question,
-the same way of counting. The program is Debian's ceph-mds, whose packages are put into out/mds and installed nowhere.
+"""Asks Debian's ceph-mds of Ceph 16.2.15, 18.2.7 and 20.2.4, and capd, the same random questions, and compares the answers: what the real
+code makes of a text, and `capd explain --mds`, with the first grant that allows; what `capd grants --mds` prints, which has to read as the
+same grants; and what `capd explain --json` says of the release beside its own answer. At the first difference it prints both answers and ends
+with status 1.
 
-It takes apt-get, dpkg, g++ and valgrind, and some 10 MB from Debian's mirror the first time, whose list of packages `apt-get update`
-fetches; and out/c/libbaybowl.a, which `tools/dev c-library` builds.
+The real code is MDSAuthCaps, in the program's own process: its parse, is_capable, allow_all, and the grants as it prints them. The last two
+tell whether a client may mount, as a server asks that. capd is asked by `capbench play`, many questions in one process. What a client refuses
+by itself is not asked of any code.
+
+With --library the library for C is asked instead, in the process of the ceph-mds of Ceph 16, by the masks of its requests, and each answer
+that differs is put to a difference that docs/GRANTS.md names; the status is 1 where one is left over.
+
+It takes apt-get, dpkg, g++ (no newer than that of Debian 12), 26 MB a release from Debian's mirror the first time, and the capbench that
+`rt ci` leaves; or with --library out/c/libbaybowl.a, which `tools/dev c-library` builds.
 """
 
-import os
-import re
-import subprocess
-import sys
+from pathlib import Path
 
-from .places import BENCH, LIBRARY, ROOT, be_there
+from . import ceph, count_mds, mds_capd, mds_real
+from .mds_compare import Case, Comparison, Unlike
+from .mds_questions import Picks, Text
+from .places import CAPBENCH, be_there
 
-OUT = ROOT / "out" / "mds"
-LIBRARIES = OUT / "root" / "usr" / "lib" / "x86_64-linux-gnu"
-# The program, and what it loads and Debian's base lacks.
-PACKAGES = ["ceph-mds", "librados2", "liblua5.3-0", "libfmt9", "libboost-thread1.74.0", "libboost-iostreams1.74.0", "libboost-random1.74.0"]
-PACKAGES += ["libboost-program-options1.74.0", "libibverbs1", "librdmacm1", "libnl-3-200", "libnl-route-3-200", "libblkid1", "libudev1", "libssl3"]
-# How many grants, of how many names; or a directory as containers have it, with an inode in it, and with one beside it.
-CELLS = [(1, 1), (4, 8), (16, 32), ("csi", 0), ("beside", 0)]
-FEW, MANY = 100, 300
+# How many texts are asked at once, and how many questions on each.
+TEXTS, QUESTIONS = 1000, 4
 
 
-def fetch():
-    if (LIBRARIES / "ceph").exists():
-        return
-    packages = OUT / "packages"
-    packages.mkdir(parents=True, exist_ok=True)
-    done = subprocess.run(["apt-get", "-q", "download", *PACKAGES], cwd=packages, stdout=subprocess.PIPE, stderr=subprocess.STDOUT, text=True)
-    if done.returncode != 0:
-        sys.exit(f"{done.stdout}bench/bench mds: no packages; apt-get update fetches their list")
-    for package in sorted(packages.glob("*.deb")):
-        subprocess.run(["dpkg", "-x", package, OUT / "root"], check=True)
+class Asked:
+    """The program of a release, beside capd."""
+
+    def __init__(self, release, preloaded, given):
+        self.release = release
+        program = ceph.Program(release, given.packages)
+        program.fetch(given.mirror)
+        self.words = program.words(preloaded)
+        self.comparison = Comparison(release)
+
+    def compare(self, cases):
+        """Compares what both say in these cases, up to the first difference."""
+        told = iter(mds_real.answers(self.words, [(text, case.questions) for case in cases for text in case.texts()]))
+        for case in cases:
+            self.comparison.compare(case, [next(told) for _ in case.texts()])
 
 
-def build():
-    """The library goes into what is preloaded, so that both are asked in one process."""
-    be_there(LIBRARY)
-    words = ["g++", "-std=c++17", "-D_GNU_SOURCE", "-O2", "-Wall", "-Wextra", "-shared", "-fPIC", f"-I{ROOT}/c/include"]
-    subprocess.run([*words, BENCH / "mds.cc", LIBRARY, "-o", OUT / "mds.so", "-ldl"], check=True)
+def ask_capd(capd, texts, releases):
+    """What capd says to questions on texts, as cases of each release."""
+    told = iter(capd.answers([words for text, questions in texts for words in mds_capd.all_words(text.text, questions, releases)]))
+    found = {release: [] for release in releases}
+    for text, questions in texts:
+        own = [next(told).object_or_fault() for _ in questions]
+        for release in releases:
+            by_release = [next(told).object_or_fault() for _ in questions]
+            found[release].append(Case(text, questions, by_release, own, next(told)))
+    return found
 
 
-def prepare():
-    fetch()
-    build()
-
-
-def run(words, **work):
-    """Runs words before the program, with its preloaded main."""
-    paths = [LIBRARIES, LIBRARIES / "ceph", OUT / "root" / "lib" / "x86_64-linux-gnu"]
-    given = {"LD_LIBRARY_PATH": ":".join(map(str, paths)), "LD_PRELOAD": str(OUT / "mds.so"), **work}
-    program = OUT / "root" / "usr" / "bin" / "ceph-mds"
-    return subprocess.run([*words, program], env={**os.environ, **given}, stdout=subprocess.PIPE, stderr=subprocess.PIPE, text=True)
-
-
-def counted(grants, depth, has_ids, times):
-    """The instructions of the whole program."""
-    work = f"{grants} {depth} {int(has_ids)} {times}"
-    done = run(["valgrind", "--tool=callgrind", f"--callgrind-out-file={OUT}/callgrind"], MDS_WORK=work)
-    found = re.search(r"Collected : (\d+)", done.stderr)
-    if done.returncode != 0 or found is None or done.stdout != f"allowed {0 if grants == 'beside' else times}\n":
-        sys.exit(f"{work} failed with status {done.returncode}:\n{done.stdout}{done.stderr}")
-    return int(found.group(1))
-
-
-def of_one(grants, depth, has_ids):
-    return (counted(grants, depth, has_ids, MANY) - counted(grants, depth, has_ids, FEW)) / (MANY - FEW)
-
-
-def timed(grants, depth, has_ids):
-    """Nanoseconds of one verdict of both, and the share."""
-    done = run([], MDS_TIME=f"{grants} {depth} {int(has_ids)} 1000000")
-    if done.returncode != 0:
-        sys.exit(f"failed with status {done.returncode}:\n{done.stdout}{done.stderr}")
-    mds, ours = map(float, done.stdout.split())
-    return f"{mds:.1f} | {ours:.1f} | {ours / mds:.2f}"
+def cases_of_forms(capd, release, cases):
+    """The cases of forms that have another order than what they are forms of."""
+    before = [case for case in cases if case.is_reordered()]
+    if not before:
+        return []
+    texts = [(Text(case.form.line(), ()), case.questions) for case in before]
+    made = ask_capd(capd, texts, [release])[release]
+    return [Case(case.text, case.questions, case.by_release, case.own, case.form, was) for case, was in zip(made, before)]
 
 
 def arguments(parser):
-    parser.add_argument("--questions", type=int, metavar="N", help="ask so many random questions of it and of the library, in one process, and put "
-                        "each that is answered differently to a difference that docs/GRANTS.md names; the status is 1 where one is left over")
+    ceph.arguments(parser)
+    beside = parser.add_mutually_exclusive_group()
+    beside.add_argument("--release", type=int, choices=sorted(ceph.RELEASES), help="of this one alone")
+    parser.add_argument("--questions", type=int, default=200000, metavar="N", help="how many, of each (%(default)s)")
     parser.add_argument("--seed", type=int, default=1, metavar="N", help="ask other questions")
-    parser.add_argument("--seconds", action="store_true", help="the time of a verdict of both, in one process")
+    parser.add_argument("--capbench", type=Path, metavar="FILE", help="the program that asks capd, where another is to")
+    beside.add_argument("--library", action="store_true", help="ask the library for C, beside Ceph 16")
 
 
-def main(args):
-    prepare()
-    if args.questions is not None:
-        done = run([], MDS_ASK=f"{args.seed} {args.questions}")
-        print(done.stdout + done.stderr, end="")
-        return done.returncode
-    cells = [(grants, depth, has_ids) for grants, depth in CELLS for has_ids in (False, True)]
-    if args.seconds:
-        print("| grants | a verdict of ceph-mds, ns | of the library, ns | share |\n|---|---|---|---|")
-    else:
-        print("| grants | a verdict of ceph-mds |\n|---|---|")
-    for cell in cells:
-        name = cell[0] if cell[1] == 0 else f"{cell[0]} of {cell[1]} names"
-        print(f"| {name}, {'ids' if cell[2] else 'plain'} | {timed(*cell) if args.seconds else f'{of_one(*cell):,.0f}'} |", flush=True)
+def main(given):
+    if given.library:
+        return count_mds.ask_library(given)
+    if given.capbench is None:
+        be_there(CAPBENCH)
+    preloaded = mds_real.build()
+    releases = [ceph.RELEASES[number] for number in ([given.release] if given.release else sorted(ceph.RELEASES))]
+    asked = [Asked(release, preloaded, given) for release in releases]
+    picks, capd = Picks(given.seed), mds_capd.Capd(given.capbench or CAPBENCH, mds_real.OUT / "asked.talk")
+    for left in range(given.questions, 0, -TEXTS * QUESTIONS):
+        texts = [picks.text() for _ in range(min(TEXTS, -(-left // QUESTIONS)))]
+        cases = ask_capd(capd, [(text, [picks.question(text.text) for _ in range(QUESTIONS)]) for text in texts], releases)
+        for it in asked:
+            try:
+                it.compare([*cases[it.release], *cases_of_forms(capd, it.release, cases[it.release])])
+            except Unlike as unlike:
+                print(f"{unlike}\n{it.comparison.tell(1)}")
+                return 1
+    for it in asked:
+        print(it.comparison.tell(0))
     return 0
