@@ -7,9 +7,15 @@ _capd() {
         mapfile -t COMPREPLY < <(compgen -W 'explain grants compare lint who audit log run serve' -- "$word")
     elif [[ ${COMP_WORDS[1]} == log ]]; then
         mapfile -t COMPREPLY < <(compgen -W '--fs --help' -- "$word")
-    elif [[ ${COMP_WORDS[1]} == compare || ${COMP_WORDS[1]} == lint ]]; then
+    elif [[ ${COMP_WORDS[1]} == compare ]]; then
         mapfile -t COMPREPLY < <(compgen -W '--json --help' -- "$word")
-    elif [[ ${COMP_WORDS[1]} == grants || ${COMP_WORDS[1]} == run || ${COMP_WORDS[1]} == serve ]]; then
+    elif [[ $before == --mds ]]; then
+        mapfile -t COMPREPLY < <(compgen -W '16 18 20' -- "$word")
+    elif [[ ${COMP_WORDS[1]} == lint ]]; then
+        mapfile -t COMPREPLY < <(compgen -W '--json --mds --help' -- "$word")
+    elif [[ ${COMP_WORDS[1]} == grants ]]; then
+        mapfile -t COMPREPLY < <(compgen -W '--more --mds --help' -- "$word")
+    elif [[ ${COMP_WORDS[1]} == run || ${COMP_WORDS[1]} == serve ]]; then
         mapfile -t COMPREPLY < <(compgen -W '--more --help' -- "$word")
     elif [[ ${COMP_WORDS[1]} != explain && ${COMP_WORDS[1]} != who && ${COMP_WORDS[1]} != audit ]]; then
         mapfile -t COMPREPLY < <(compgen -W '--help' -- "$word")
@@ -22,7 +28,7 @@ _capd() {
     elif [[ ${COMP_WORDS[1]} == who ]]; then
         mapfile -t COMPREPLY < <(compgen -W '--auth --fs --owner --group --mode --more --json --help' -- "$word")
     else
-        mapfile -t COMPREPLY < <(compgen -W '--grants --keyring --auth --client --fs --uid --gid --groups --path --owner --group --mode --access --more --quiet --json --help' -- "$word")
+        mapfile -t COMPREPLY < <(compgen -W '--grants --keyring --auth --client --fs --uid --gid --groups --path --owner --group --mode --access --mds --more --quiet --json --help' -- "$word")
     fi
 }
 complete -F _capd capd

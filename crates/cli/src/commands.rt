@@ -113,11 +113,15 @@ fn answer<T: Threads + Wait + Sync, R: Read, W: Write>(
 {
     let answered = match invocation {
         Invocation::Explain(explain_args) => explain(alloc, explain_args, reader, writer),
-        Invocation::Grants { text, more: _ } => grants(alloc, text.as_slice(), writer),
+        Invocation::Grants { text, more: _, mds } => {
+            grants(alloc, text.as_slice(), *mds, writer)
+        }
         Invocation::Compare { old, new, shape } => {
             compare_texts(alloc, old.as_slice(), new.as_slice(), *shape, writer)
         }
-        Invocation::Lint { text, shape } => lint(alloc, text.as_slice(), *shape, writer),
+        Invocation::Lint { text, shape, mds } => {
+            lint(alloc, text.as_slice(), *shape, *mds, writer)
+        }
         Invocation::Who(who_args) => who(alloc, who_args, reader, writer),
         Invocation::Audit(audit_args) => audit(alloc, audit_args, reader, writer),
         Invocation::Log(fs) => log(alloc, fs.as_slice(), reader, writer),

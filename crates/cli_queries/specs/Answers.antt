@@ -1,18 +1,28 @@
 -- What a command that answers a question about grants writes, and why it stops before that.
-use Rattle.std.specs.Prelude.{◌≡◌, ◌⊎◌, ℕ, Bool, List, length, Option, IsTrue, IsFalse, ◌==◌, if◌then◌else◌}
+use Rattle.std.specs.Prelude.{◌≡◌, ◌⊎◌, ℕ, Bool, List, length, ◌++◌, Option, Some, None, Ok, Err, IsTrue, IsFalse, ◌==◌, codes, if◌then◌else◌}
 use Rattle.std.specs.Global.{Vec}
 use Rattle.std.specs.Io.KnownBytes.{Appends, Keeps}
+use Rattle.capspec.specs.declared.grant.Grant.{Grant}
+use Rattle.capspec.specs.Grants.{Reads}
+use Rattle.capspec.specs.Written.{written}
+use Rattle.release_rules.specs.declared.forms.NoForm.{NoForm}
+use Rattle.release_rules.specs.declared.release.Release.{Release}
+use Rattle.release_rules.specs.Releases.{switches_of}
+use Rattle.release_rules.specs.Written.{IsForm}
+use Rattle.queries.specs.Fault.{IsFaultOfText}
 use Rattle.queries.specs.declared.fault.QuestionFault.{QuestionFault}
-use Rattle.queries.specs.declared.question.Question.{Question}
-use Rattle.queries.specs.Question.{AsksFor, IsFaultIn}
+use Rattle.queries.specs.declared.mds.MdsFault.{MdsFault}
+use Rattle.queries.specs.declared.question.Values.{Values}
+use Rattle.queries.specs.Mds.{IsMdsFault}
+use Rattle.queries.specs.Question.{IsFaultIn, IsFaultOfAsking}
 use Rattle.texts.specs.declared.shape.Shape.{Shape}
 use Rattle.texts.specs.Shapes.{nothing_in}
-use Rattle.queries.specs.Linting.{IsLintOf}
+use Rattle.queries.specs.Linting.{IsLintBy, IsLintOf}
 use Rattle.cli_queries.specs.declared.fault.AnswerFault.{AnswerFault}
-use Rattle.cli_queries.specs.declared.fault.AnswerFault.TheVariants.{WriteFailed}
+use Rattle.cli_queries.specs.declared.fault.AnswerFault.TheVariants.{NoMemory, WriteFailed}
 use Rattle.cli_queries.specs.declared.explain_args.ExplainArgs.{ExplainArgs}
-use Rattle.cli_queries.specs.Fault.{Tells, TellsOfTexts}
-use Rattle.cli_queries.specs.ExplainArgs.{IsAnswered, IsGrantsText, IsUnread, with_grants}
+use Rattle.cli_queries.specs.Fault.{Tells, TellsOfTexts, form_fault_of, mds_fault_of}
+use Rattle.cli_queries.specs.ExplainArgs.{AnswersBy, IsGrantsText, IsUnread, with_grants}
 
 -- a write failed, or the fault is one of which this holds, and nothing was written
 abbrev pub StopsBefore : (QuestionFault → Type 0) → AnswerFault → Bool → Option (List ℕ) → Option (List ℕ) → Type 0
@@ -25,18 +35,49 @@ StopsComparing before after fault failed old new = ((fault ≡ WriteFailed) × I
 -- the question of `explain` was answered with this status, by the text of the grants from where it is
 pub record AnswersExplainArgs (explain_args : ExplainArgs) (input : Option (List ℕ)) (status : ℕ) (old new : Option (List ℕ)) : Type 0 where
   pub grants : Vec ℕ
-  pub asked : Question
   pub text : IsGrantsText explain_args.source explain_args.values.grants.items input grants.items
-  pub asks : AsksFor (with_grants explain_args.values grants) asked
-  pub answered : IsAnswered explain_args.form asked status old new
+  pub answered : AnswersBy explain_args.mds explain_args.form (with_grants explain_args.values grants) status old new
+
+-- what the values ask is not answered: a write failed, or nothing was written, by the first fault of the values, or of what a release makes of
+-- the grants
+abbrev pub StopsBy : Option Release → Values → AnswerFault → Bool → Option (List ℕ) → Option (List ℕ) → Type 0
+StopsBy None v fault unwritten old new = StopsBefore (IsFaultIn v) fault unwritten old new
+StopsBy (Some release) v fault unwritten old new =
+    StopsBefore (IsFaultOfAsking v) fault unwritten old new ⊎ ((found : MdsFault) × (fault ≡ mds_fault_of found) × IsMdsFault release v.grants.items found × Keeps old new)
 
 -- the text of the grants can't be had, and nothing was written; or no read failed, and the question by that text stops
 abbrev pub StopsExplainArgs : ExplainArgs → AnswerFault → Option (List ℕ) → Bool → Bool → Option (List ℕ) → Option (List ℕ) → Type 0
 StopsExplainArgs explain_args fault input unread unwritten old new = (IsUnread explain_args.source fault input unread × Keeps old new)
     ⊎ ((grants : Vec ℕ) × IsGrantsText explain_args.source explain_args.values.grants.items input grants.items × IsFalse unread
-    × StopsBefore (IsFaultIn (with_grants explain_args.values grants)) fault unwritten old new)
+    × StopsBy explain_args.mds (with_grants explain_args.values grants) fault unwritten old new)
 
--- the lines for what is found in a text of grants were written in this shape, with the status 3; or that nothing is, with 0
-abbrev pub AnswersLint : Shape → List ℕ → ℕ → Option (List ℕ) → Option (List ℕ) → Type 0
-AnswersLint shape text status old new = (lines : List ℕ) × IsLintOf shape text lines × (status ≡ (if length lines == 0 then 0 else 3))
-    × Appends old new (if length lines == 0 then nothing_in shape else lines)
+-- the written form of the grants that a text means was written as a line, or the form of the text that a release reads
+abbrev pub AnswersGrants : Option Release → List ℕ → Option (List ℕ) → Option (List ℕ) → Type 0
+AnswersGrants None text old new = (grants : List Grant) × Reads text grants × Appends old new (written grants ++ codes "\n")
+AnswersGrants (Some release) text old new = (form : Vec ℕ) × IsForm (switches_of release) text (Ok form) × Appends old new (form.items ++ codes "\n")
+
+-- none was: a write failed, or nothing was written, by the first fault of the text, or as the release reads no form
+abbrev pub StopsGrants : Option Release → List ℕ → AnswerFault → Bool → Option (List ℕ) → Option (List ℕ) → Type 0
+StopsGrants None text fault failed old new = StopsBefore (IsFaultOfText text) fault failed old new
+StopsGrants (Some release) text fault failed old new =
+    ((fault ≡ WriteFailed) × IsTrue failed)
+    ⊎ (((fault ≡ NoMemory) ⊎ ((none : NoForm) × (fault ≡ form_fault_of release none) × IsForm (switches_of release) text (Err none))) × Keeps old new)
+
+-- these lines of what is found were written, with the status 3; or that there are none, with 0
+abbrev pub WritesFound : Shape → List ℕ → ℕ → Option (List ℕ) → Option (List ℕ) → Type 0
+WritesFound shape lines status old new = (status ≡ (if length lines == 0 then 0 else 3)) × Appends old new (if length lines == 0 then nothing_in shape else lines)
+
+-- the lines for what is found in a text of grants, by the rules of a release alone where one is named
+abbrev pub IsLintFor : Option Release → Shape → List ℕ → List ℕ → Type 0
+IsLintFor None shape text lines = IsLintOf shape text lines
+IsLintFor (Some release) shape text lines = IsLintBy release shape text lines
+
+-- such lines were written in this shape, or that nothing is found
+abbrev pub AnswersLint : Option Release → Shape → List ℕ → ℕ → Option (List ℕ) → Option (List ℕ) → Type 0
+AnswersLint mds shape text status old new = (lines : List ℕ) × IsLintFor mds shape text lines × WritesFound shape lines status old new
+
+-- none were: a write failed, or nothing was written, by the first fault of the text, or as the release does not read it
+abbrev pub StopsLint : Option Release → List ℕ → AnswerFault → Bool → Option (List ℕ) → Option (List ℕ) → Type 0
+StopsLint None text fault failed old new = StopsBefore (IsFaultOfText text) fault failed old new
+StopsLint (Some release) text fault failed old new =
+    ((fault ≡ WriteFailed) × IsTrue failed) ⊎ ((found : MdsFault) × (fault ≡ mds_fault_of found) × IsMdsFault release text found × Keeps old new)

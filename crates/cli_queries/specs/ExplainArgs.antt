@@ -1,12 +1,18 @@
 -- What `explain` is asked, and how it answers.
-use Rattle.std.specs.Prelude.{◌≡◌, ◌≢◌, ◌⊎◌, ◌<◌, ◌≤◌, ℕ, Bool, List, length, ◌++◌, Option, Some, IfSome, Ok, Err, IsTrue, codes, if◌then◌else◌}
+use Rattle.std.specs.Prelude.{◌≡◌, ◌≢◌, ◌⊎◌, ◌<◌, ◌≤◌, ℕ, Bool, List, length, ◌++◌, Option, Some, None, IfSome, Ok, Err, IsTrue, codes, if◌then◌else◌}
 use Rattle.std.specs.Global.{Vec}
 use Rattle.std.specs.Io.KnownBytes.{Appends, Keeps}
 use Rattle.capgrant.specs.Verdict.{is_allowed}
+use Rattle.release_rules.specs.declared.grant.Grant.{Grant}
+use Rattle.release_rules.specs.declared.release.Release.{Release}
+use Rattle.queries.specs.declared.mds.MdsAnswer.{MdsAnswer}
+use Rattle.queries.specs.declared.question.Asking.{Asking}
 use Rattle.queries.specs.declared.question.Question.{Question}
 use Rattle.queries.specs.declared.question.Values.{Values}
-use Rattle.queries.specs.Question.{answer_text, verdict_on}
-use Rattle.queries.specs.Remarks.{full_object, full_text}
+use Rattle.queries.specs.Mds.{MdsReads, answer_by, lines_by, object_by}
+use Rattle.queries.specs.Mds.{is_allowed as is_allowed_by}
+use Rattle.queries.specs.Question.{Asks, AsksFor, answer_text, verdict_on}
+use Rattle.queries.specs.Remarks.{remarked_answer, remarked_object}
 use Rattle.texts.specs.declared.fault.ScriptFault.TheVariants as stops
 use Rattle.texts.specs.ScriptLines.{longest_script}
 use Rattle.ceph_input.specs.declared.keyring_fault.KeyringFault.{KeyringFault}
@@ -63,10 +69,23 @@ IsUnread (sources.Auth file client) fault input unread = (IsTrue unread → faul
 abbrev pub with_grants : Values → Vec ℕ → Values
 with_grants values grants = record values { grants = grants }
 
--- the question was answered, with this status: by its line, by this with all that is worth a word beside it, by the object that says all
--- of it, or by the status alone, 0 where a grant allows and else 3
-abbrev pub IsAnswered : Form → Question → ℕ → Option (List ℕ) → Option (List ℕ) → Type 0
-IsAnswered forms.Line q status old new = (status ≡ 0) × Appends old new (answer_text q ++ codes "\n")
-IsAnswered forms.More q status old new = (status ≡ 0) × Appends old new (full_text q)
-IsAnswered forms.Object q status old new = (status ≡ 0) × Appends old new (full_object q)
-IsAnswered forms.Status q status old new = (status ≡ (if is_allowed (verdict_on q) then 0 else 3)) × Keeps old new
+-- the question, whose grants were read in this text, was answered, with this status: by its line, by this with all that is worth a word beside
+-- it, by the object that says all of it, or by the status alone, 0 where a grant allows and else 3
+abbrev pub IsAnswered : Form → List ℕ → Question → ℕ → Option (List ℕ) → Option (List ℕ) → Type 0
+IsAnswered forms.Line text q status old new = (status ≡ 0) × Appends old new (answer_text q ++ codes "\n")
+IsAnswered forms.More text q status old new = (status ≡ 0) × Appends old new (remarked_answer text q)
+IsAnswered forms.Object text q status old new = (status ≡ 0) × Appends old new (remarked_object text q)
+IsAnswered forms.Status text q status old new = (status ≡ (if is_allowed (verdict_on q) then 0 else 3)) × Keeps old new
+
+-- the same with what the MDS of a release says, for which there is no more to be said
+abbrev pub IsAnsweredBy : Form → Asking → MdsAnswer → ℕ → Option (List ℕ) → Option (List ℕ) → Type 0
+IsAnsweredBy forms.Line a answer status old new = (status ≡ 0) × Appends old new (lines_by a answer)
+IsAnsweredBy forms.More a answer status old new = (status ≡ 0) × Appends old new (lines_by a answer)
+IsAnsweredBy forms.Object a answer status old new = (status ≡ 0) × Appends old new (object_by a answer)
+IsAnsweredBy forms.Status a answer status old new = (status ≡ (if is_allowed_by answer.verdict then 0 else 3)) × Keeps old new
+
+-- what the values ask was answered in this form, by the rules of this server or of a release
+abbrev pub AnswersBy : Option Release → Form → Values → ℕ → Option (List ℕ) → Option (List ℕ) → Type 0
+AnswersBy None form v status old new = (asked : Question) × AsksFor v asked × IsAnswered form v.grants.items asked status old new
+AnswersBy (Some release) form v status old new =
+    (asked : Asking) × (grants : List Grant) × Asks v asked × MdsReads release v.grants.items grants × IsAnsweredBy form asked (answer_by release asked grants) status old new

@@ -3,6 +3,11 @@ use Rattle.std.specs.Prelude.{◌≡◌, ℕ, List}
 use Rattle.queries.specs.declared.fault.QuestionFault.{QuestionFault}
 use Rattle.queries.specs.declared.fault.QuestionFault.TheVariants.{BadValue, Grants}
 use Rattle.queries.specs.declared.fault.QuestionFault.TheVariants as asked
+use Rattle.release_rules.specs.declared.forms.NoForm.{NoForm as WithoutForm}
+use Rattle.release_rules.specs.declared.forms.NoForm.TheVariants as forms
+use Rattle.release_rules.specs.declared.release.Release.{Release}
+use Rattle.queries.specs.declared.mds.MdsFault.{MdsFault}
+use Rattle.queries.specs.declared.mds.MdsFault.TheVariants as mds
 use Rattle.queries.specs.declared.comparing.CompareFault.{CompareFault}
 use Rattle.queries.specs.declared.comparing.CompareFault.TheVariants as compared
 use Rattle.queries.specs.Comparing.{IsFaultOfTexts}
@@ -11,7 +16,7 @@ use Rattle.ceph_input.specs.declared.auth_fault.AuthFault.TheVariants as auths
 use Rattle.ceph_input.specs.declared.keyring_fault.KeyringFault.{KeyringFault}
 use Rattle.ceph_input.specs.declared.keyring_fault.KeyringFault.TheVariants as keyrings
 use Rattle.cli_queries.specs.declared.fault.AnswerFault.{AnswerFault}
-use Rattle.cli_queries.specs.declared.fault.AnswerFault.TheVariants.{Auth, Compare, Keyring, NoMemory, Question}
+use Rattle.cli_queries.specs.declared.fault.AnswerFault.TheVariants.{Auth, Compare, Keyring, NoForm, NoMemory, NotRead, Question}
 
 -- want of memory stays that; any other fault is passed on as it is
 abbrev pub fault_of : QuestionFault → AnswerFault
@@ -22,6 +27,16 @@ fault_of asked.NoMemory = NoMemory
 -- what is told is a fault of which this holds
 abbrev pub Tells : (QuestionFault → Type 0) → AnswerFault → Type 0
 Tells P fault = (found : QuestionFault) × (fault ≡ fault_of found) × P found
+
+-- the same of grants that a release is to read
+abbrev pub mds_fault_of : MdsFault → AnswerFault
+mds_fault_of (mds.NotRead found) = NotRead found
+mds_fault_of mds.NoMemory = NoMemory
+
+-- why a text has no form that the release reads
+abbrev pub form_fault_of : Release → WithoutForm → AnswerFault
+form_fault_of release (forms.NotRead unread) = NotRead (record { release = release; at = unread.at })
+form_fault_of release (forms.OfGrant grant) = NoForm release grant
 
 -- the same of a keyring
 abbrev pub keyring_fault_of : KeyringFault → AnswerFault

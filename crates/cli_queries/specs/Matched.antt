@@ -16,6 +16,8 @@ use Rattle.queries.specs.declared.attempt.AttrValues.{AttrValues}
 use Rattle.queries.specs.declared.clients.Telling.{Telling}
 use Rattle.queries.specs.declared.clients.Telling.TheVariants as tellings
 use Rattle.queries.specs.Options.{option_name}
+use Rattle.release_rules.specs.declared.release.Release.{Release}
+use Rattle.release_rules.specs.Releases.{release_of}
 use Rattle.cli_queries.specs.declared.audit_args.AuditArgs.{AuditArgs}
 use Rattle.cli_queries.specs.declared.command_line.Invocation.{Invocation}
 use Rattle.cli_queries.specs.declared.command_line.Invocation.TheVariants as invocations
@@ -58,6 +60,11 @@ IsFlag words name flag = MatchOption (one_of name words) (IsFalse flag) (λ text
 abbrev pub IsOption : List Row → Opt → Vec ℕ → Type 0
 IsOption words option value = IsValue words (option_name option) value
 
+-- `--mds` names the release by whose rules is answered; this server's, where it is left out
+abbrev pub IsMds : List Row → Option Release → Type 0
+IsMds words None = IsLeftOut words (codes "mds")
+IsMds words (Some release) = (word : Vec ℕ) × IsValue words (codes "mds") word × (release_of word.items ≡ Some release)
+
 -- `--json` asks for objects
 abbrev pub IsShape : List Row → Shape → Type 0
 IsShape words shapes.Objects = IsFlag words (codes "json") true
@@ -96,6 +103,7 @@ pub record IsExplainArgs (words : List Row) (explain_args : ExplainArgs) : Type 
   pub values : AreValues words explain_args.values
   pub source : IsSource words explain_args.values.grants.items explain_args.source
   pub form : IsForm words explain_args.form
+  pub mds : IsMds words explain_args.mds
 
 -- ---- who
 
@@ -142,9 +150,9 @@ pub record IsAuditArgs (words : List Row) (audit_args : AuditArgs) : Type 0 wher
 -- the command of this name asks for this, with the values of its words
 abbrev pub AsksFor : List ℕ → List Row → Invocation → Type 0
 AsksFor name words (invocations.Explain explain_args) = (name ≡ codes "explain") × IsExplainArgs words explain_args
-AsksFor name words (invocations.Grants text more) = (name ≡ codes "grants") × IsValue words (codes "text") text × IsFlag words (codes "more") more
+AsksFor name words (invocations.Grants text more mds) = (name ≡ codes "grants") × IsValue words (codes "text") text × IsFlag words (codes "more") more × IsMds words mds
 AsksFor name words (invocations.Compare old new shape) = (name ≡ codes "compare") × IsValue words (codes "old") old × IsValue words (codes "new") new × IsShape words shape
-AsksFor name words (invocations.Lint text shape) = (name ≡ codes "lint") × IsValue words (codes "text") text × IsShape words shape
+AsksFor name words (invocations.Lint text shape mds) = (name ≡ codes "lint") × IsValue words (codes "text") text × IsShape words shape × IsMds words mds
 AsksFor name words (invocations.Who who_args) = (name ≡ codes "who") × IsWhoArgs words who_args
 AsksFor name words (invocations.Audit audit_args) = (name ≡ codes "audit") × IsAuditArgs words audit_args
 AsksFor name words (invocations.Log fs) = (name ≡ codes "log") × IsOption words options.Fs fs

@@ -122,7 +122,9 @@ fn taken_by(option: Opt) -> &'static str {
 // What helps against the fault, where something is known to help; it may be one of a text of grants, at this place.
 fn advice(fault: AnswerFault, refused: Option<(&[u8], usize)>) -> Option<&'static str> {
     match fault {
-        AnswerFault::Question(QuestionFault::Grants(_)) | AnswerFault::Compare(_) => {
+        AnswerFault::Question(QuestionFault::Grants(_))
+        | AnswerFault::NotRead(_)
+        | AnswerFault::Compare(_) => {
             let (text, at) = refused?;
             pasted(text, at)
         }
@@ -147,7 +149,7 @@ fn advice(fault: AnswerFault, refused: Option<(&[u8], usize)>) -> Option<&'stati
         ),
         AnswerFault::Cluster(HeldFault::Sessions(found)) => connecting(found),
         AnswerFault::Tree(TreeFault::NotJson { .. }) => {
-            Some("--tree takes what `ceph tell mds.0 dump tree /` prints")
+            Some("--tree takes what `ceph tell mds.FS:0 dump tree /` prints")
         }
         AnswerFault::Tree(TreeFault::BadItem { .. }) => Some(
             "an inode has numbers at ino, uid, gid and mode, and lists at client_caps and dirfrags if they are there",
@@ -177,7 +179,7 @@ fn listing(fault: AuthFault) -> Option<&'static str> {
 fn connecting(fault: ClusterFault) -> Option<&'static str> {
     match fault {
         ClusterFault::NotJson { .. } | ClusterFault::NoList => {
-            Some("--sessions takes what `ceph tell mds.0 session ls` prints")
+            Some("--sessions takes what `ceph tell mds.FS:0 session ls` prints")
         }
         ClusterFault::BadItem { .. } => Some("a session has a number at id"),
         ClusterFault::NoMemory => None,
@@ -188,31 +190,35 @@ fn connecting(fault: ClusterFault) -> Option<&'static str> {
 fn shows_more(invocation: &Invocation) -> bool {
     match invocation {
         Invocation::Explain(explain_args) => matches!(explain_args.form, Form::More),
-        Invocation::Grants { text: _, more } => *more,
+        Invocation::Grants { more, .. } => *more,
         _ => true,
     }
 }
 
 // The text of grants that has the fault, and how many bytes stand before it. Of a text with nothing but white space there is no place.
 fn refused<'a>(invocation: &'a Invocation, fault: AnswerFault) -> Option<(&'a [u8], usize)> {
-    let (text, found) = match (invocation, fault) {
-        (Invocation::Explain(explain_args), AnswerFault::Question(QuestionFault::Grants(found))) =>
-            { (&explain_args.values.grants, found) }
-        (
-            Invocation::Grants { text, .. } | Invocation::Lint { text, .. },
-            AnswerFault::Question(QuestionFault::Grants(found)),
-        ) => (text, found),
-        (Invocation::Compare { old, .. }, AnswerFault::Compare(CompareFault::Old(found))) => (
-            old, found,
-        ),
-        (Invocation::Compare { new, .. }, AnswerFault::Compare(CompareFault::New(found))) => (
-            new, found,
-        ),
+    let at = place_of(fault)?;
+    let text = match (invocation, fault) {
+        (Invocation::Explain(explain_args), _) => &explain_args.values.grants,
+        (Invocation::Grants { text, .. } | Invocation::Lint { text, .. }, _) => text,
+        (Invocation::Compare { old, .. }, AnswerFault::Compare(CompareFault::Old(_))) => old,
+        (Invocation::Compare { new, .. }, _) => new,
+        _ => return None,
+    };
+    Some((text.as_slice(), at))
+}
+
+// The place of a fault of a text of grants.
+fn place_of(fault: AnswerFault) -> Option<usize> {
+    let found = match fault {
+        AnswerFault::NotRead(found) => return Some(found.at),
+        AnswerFault::Question(QuestionFault::Grants(found))
+        | AnswerFault::Compare(CompareFault::Old(found) | CompareFault::New(found)) => found,
         _ => return None,
     };
     match found.kind {
         SpecFaultKind::Empty => None,
-        _ => Some((text.as_slice(), found.at)),
+        _ => Some(found.at),
     }
 }
 

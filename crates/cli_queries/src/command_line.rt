@@ -5,8 +5,10 @@ use crate::explain_args::ExplainArgs;
 use crate::from_clap::invoked;
 use crate::usage::{COMMANDS, Kind, Usage, Word};
 use crate::who_args::WhoArgs;
+use clap::error::ErrorKind;
 use clap::{Arg, ArgAction, Command, Error};
 use queries::spell;
+use release_rules::Release;
 use std::alloc::{AllocError, Global};
 use texts::Shape;
 
@@ -57,6 +59,8 @@ pub const MORE: &str = "more";
 
 pub const JSON: &str = "json";
 
+pub const MDS: &str = "mds";
+
 /// The value of `--grants`, of `--keyring` or of `--auth` that stands for standard input.
 pub const INPUT: &[u8] = b"-";
 
@@ -64,7 +68,7 @@ const STATUSES: &str = "Status:
   0  the whole answer was written; of `explain --quiet`: allowed
   1  a value, a text or a script has a fault, a read or a write failed, or memory was missing
   2  the command line is wrong
-  3  of `explain --quiet`: denied; of `lint` and `audit`: something was found, or `audit` could not judge it";
+  3  of `explain --quiet`: denied; of `lint` and `audit`: something was found; of `who` and `audit`: something could not be judged";
 
 /// What a command line asks for.
 pub enum Invocation {
@@ -75,6 +79,8 @@ pub enum Invocation {
         text: Vec<u8>,
         /// Whether the place of a fault is to be shown.
         more: bool,
+        /// The release that is to read the form; none is this server.
+        mds: Option<Release>,
     },
     /// What grants allow that others deny.
     Compare {
@@ -90,6 +96,8 @@ pub enum Invocation {
         text: Vec<u8>,
         /// How the answer is written.
         shape: Shape,
+        /// The release by whose rules it is found; none is this server, with what Ceph 18 and 20 have beside it.
+        mds: Option<Release>,
     },
     /// Which clients of a cluster may make an access.
     Who(WhoArgs),
@@ -114,13 +122,21 @@ impl Drop for Invocation {
     fn drop(self) {
         match self {
             Invocation::Explain(_) => {}
-            Invocation::Grants { text: _, more: _ } => {}
+            Invocation::Grants {
+                text: _,
+                more: _,
+                mds: _,
+            } => {}
             Invocation::Compare {
                 old: _,
                 new: _,
                 shape: _,
             } => {}
-            Invocation::Lint { text: _, shape: _ } => {}
+            Invocation::Lint {
+                text: _,
+                shape: _,
+                mds: _,
+            } => {}
             Invocation::Who(_) => {}
             Invocation::Audit(_) => {}
             Invocation::Log(_) => {}
@@ -153,7 +169,16 @@ fn parse_by<'a>(
     let matches = command.try_get_matches_from_mut(texts)?;
     match invoked(alloc, &matches) {
         Ok(invocation) => Ok(invocation),
-        Err(kind) => Err(command.error(kind, "a word is missing")?),
+        Err(kind) => Err(command.error(kind, said_of(kind))?),
+    }
+}
+
+// What is said of words that the parser lets through.
+fn said_of(kind: ErrorKind) -> &'static str {
+    match kind {
+        ErrorKind::InvalidValue =>
+            "--mds takes a release that was asked: 16 (16.2.15), 18 (18.2.7) or 20 (20.2.4)",
+        _ => "a word is missing",
     }
 }
 

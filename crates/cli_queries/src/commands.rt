@@ -1,5 +1,5 @@
 //! The commands that answer a question about grants.
-ghost use Rattle.std.specs.Prelude.{◌≡◌, ◌⊎◌, ◌++◌, ℕ, List, codes, OnOk, IfOk, IfErr, IsTrue, IsFalse};
+ghost use Rattle.std.specs.Prelude.{◌≡◌, ◌⊎◌, ◌++◌, ℕ, List, Some, codes, OnOk, IfOk, IfErr, IsTrue, IsFalse};
 ghost use Rattle.std.specs.Io.KnownBytes.{Appends, Keeps};
 ghost use Rattle.capspec.specs.Grants.{Reads};
 ghost use Rattle.capspec.specs.Written.{written};
@@ -10,14 +10,19 @@ ghost use Rattle.queries.specs.Comparing.{IsComparison};
 ghost use Rattle.queries.specs.Question.{AsksFor, IsFaultIn};
 ghost use Rattle.texts.specs.Watched.{has_ended, has_failed, inner_of};
 ghost use Rattle.cli_queries.specs.declared.fault.AnswerFault.TheVariants as faults;
-ghost use Rattle.cli_queries.specs.Answers.{AnswersExplainArgs, AnswersLint, StopsBefore, StopsComparing, StopsExplainArgs};
-ghost use Rattle.cli_queries.specs.ExplainArgs.{IsAnswered};
+ghost use Rattle.cli_queries.specs.Answers.{AnswersExplainArgs, AnswersGrants, AnswersLint, StopsBefore, StopsBy, StopsComparing, StopsExplainArgs};
+ghost use Rattle.cli_queries.specs.Answers.{StopsGrants, StopsLint, WritesFound};
+ghost use Rattle.cli_queries.specs.ExplainArgs.{AnswersBy, IsAnswered, IsAnsweredBy};
+ghost use Rattle.cli_queries.specs.Fault.{form_fault_of};
 
 use crate::explain_args::{ExplainArgs, Form, fill};
 use crate::fault::AnswerFault;
 use crate::status::{DENIED, DONE, FOUND};
 use capspec::{read_grants, write_grants};
-use queries::{Question, Values, compare, lint_text};
+use queries::{
+    Asking, MdsAnswer, NotRead, Question, Values, compare, lint_by, lint_text, mds_grants,
+};
+use release_rules::{NoForm, Release, mds_form};
 use std::alloc::Global;
 use std::io::{Read, Write};
 use texts::{Shape, Watched};
@@ -45,7 +50,83 @@ pub fn explain<R: Read, W: Write>(
         &mut explain_args.values.grants,
         reader,
     )?;
-    write_answer(alloc, &explain_args.values, explain_args.form, writer)
+    write_by(
+        alloc,
+        &explain_args.values,
+        explain_args.form,
+        explain_args.mds,
+        writer,
+    )
+}
+
+// Answers what values ask, by the rules of this server or of a release.
+fn write_by<W: Write>(
+    alloc: Global,
+    values: &Values,
+    form: Form,
+    mds: Option<Release>,
+    writer: &mut Watched<W>,
+) -> Result<u8, AnswerFault>
+    requires { IsFalse (has_failed writer.old) }
+    ensures status { IfOk result (λ status. (status ≡ DONE) ⊎ (status ≡ DENIED)) }
+    ensures ok { OnOk result (IsFalse (has_failed writer.new)) }
+    ensures answer { IfOk result (λ status. AnswersBy mds form values.now status (W.contents (inner_of writer.old)) (W.contents (inner_of writer.new))) }
+    ensures fault { IfErr result (λ fault. StopsBy mds values.now fault (has_failed writer.new)
+        (W.contents (inner_of writer.old)) (W.contents (inner_of writer.new))) }
+{
+    match mds {
+        Some(release) => write_mds_answer(alloc, values, form, release, writer),
+        None => write_answer(alloc, values, form, writer),
+    }
+}
+
+// Answers what values ask by the rules of a release.
+fn write_mds_answer<W: Write>(
+    alloc: Global,
+    values: &Values,
+    form: Form,
+    release: Release,
+    writer: &mut Watched<W>,
+) -> Result<u8, AnswerFault>
+    requires { IsFalse (has_failed writer.old) }
+    ensures status { IfOk result (λ status. (status ≡ DONE) ⊎ (status ≡ DENIED)) }
+    ensures ok { OnOk result (IsFalse (has_failed writer.new)) }
+    ensures answer { IfOk result (λ status. AnswersBy (Some release) form values.now status (W.contents (inner_of writer.old)) (W.contents (inner_of writer.new))) }
+    ensures fault { IfErr result (λ fault. StopsBy (Some release) values.now fault (has_failed writer.new)
+        (W.contents (inner_of writer.old)) (W.contents (inner_of writer.new))) }
+{
+    let grants = mds_grants(alloc, values.grants.as_slice(), release)?;
+    let asking = Asking::read(alloc, values)?;
+    let answer = asking.judge_by(alloc, release, grants.as_slice())?;
+    write_failed(alloc, &asking, &answer, form, writer)
+}
+
+// Tells what the MDS of a release says by lines, by an object, or by the status alone.
+fn write_failed<W: Write>(
+    alloc: Global,
+    asking: &Asking,
+    answer: &MdsAnswer,
+    form: Form,
+    writer: &mut Watched<W>,
+) -> Result<u8, AnswerFault>
+    requires { IsFalse (has_failed writer.old) }
+    ensures status { IfOk result (λ status. (status ≡ DONE) ⊎ (status ≡ DENIED)) }
+    ensures ok { OnOk result (IsFalse (has_failed writer.new)) }
+    ensures answer { IfOk result (λ status. IsAnsweredBy form asking.now answer.now status (W.contents (inner_of writer.old)) (W.contents (inner_of writer.new))) }
+    ensures err { IfErr result (λ fault. ((fault ≡ faults.WriteFailed) × IsTrue (has_failed writer.new))
+        ⊎ ((fault ≡ faults.NoMemory) × Keeps (W.contents (inner_of writer.old)) (W.contents (inner_of writer.new)))) }
+{
+    match form {
+        Form::Line | Form::More => {
+            let lines = asking.mds_lines(alloc, answer)?;
+            write_text(lines.as_slice(), DONE, writer)
+        }
+        Form::Object => {
+            let object = asking.mds_object(alloc, answer)?;
+            write_text(object.as_slice(), DONE, writer)
+        }
+        Form::Status => Ok(if answer.is_allowed() { DONE } else { DENIED }),
+    }
 }
 
 // Answers a question by a line, by that with more behind it, by an object, or by the status alone.
@@ -59,7 +140,7 @@ fn write_answer<W: Write>(
     ensures status { IfOk result (λ status. (status ≡ DONE) ⊎ (status ≡ DENIED)) }
     ensures ok { OnOk result (IsFalse (has_failed writer.new)) }
     ensures answer { IfOk result (λ status. (asked : Asked) × AsksFor values.now asked
-        × IsAnswered form asked status (W.contents (inner_of writer.old)) (W.contents (inner_of writer.new))) }
+        × IsAnswered form values.now.grants.items asked status (W.contents (inner_of writer.old)) (W.contents (inner_of writer.new))) }
     // A fault of the values, or want of memory, comes before anything is written.
     ensures fault { IfErr result (λ fault. StopsBefore (IsFaultIn values.now) fault (has_failed writer.new)
         (W.contents (inner_of writer.old)) (W.contents (inner_of writer.new))) }
@@ -71,11 +152,11 @@ fn write_answer<W: Write>(
             write_line(line, writer)
         }
         Form::More => {
-            let lines = question.full_answer(alloc)?;
+            let lines = question.remarked_answer(alloc, values.grants.as_slice())?;
             write_text(lines.as_slice(), DONE, writer)
         }
         Form::Object => {
-            let object = question.full_object(alloc)?;
+            let object = question.remarked_object(alloc, values.grants.as_slice())?;
             write_text(object.as_slice(), DONE, writer)
         }
         Form::Status => {
@@ -85,8 +166,28 @@ fn write_answer<W: Write>(
     }
 }
 
-/// Writes the grants that a text means in their written form, as a line.
+/// Writes the grants of a text in their written form, or in one that a release reads, as a line.
 pub fn grants<W: Write>(
+    alloc: Global,
+    text: &[u8],
+    mds: Option<Release>,
+    writer: &mut Watched<W>,
+) -> Result<u8, AnswerFault>
+    requires { IsFalse (has_failed writer.old) }
+    ensures ok { OnOk result (IsFalse (has_failed writer.new)) }
+    ensures status { IfOk result (λ status. status ≡ DONE) }
+    ensures form { OnOk result (AnswersGrants mds text.now (W.contents (inner_of writer.old)) (W.contents (inner_of writer.new))) }
+    ensures fault { IfErr result (λ fault. StopsGrants mds text.now fault (has_failed writer.new)
+        (W.contents (inner_of writer.old)) (W.contents (inner_of writer.new))) }
+{
+    match mds {
+        Some(release) => write_mds_form(alloc, text, release, writer),
+        None => write_form(alloc, text, writer),
+    }
+}
+
+// Writes the grants that a text means in their written form, as a line.
+fn write_form<W: Write>(
     alloc: Global,
     text: &[u8],
     writer: &mut Watched<W>,
@@ -102,6 +203,39 @@ pub fn grants<W: Write>(
     let grants = read_grants(alloc, text)?;
     let line = write_grants(alloc, &grants)?;
     write_line(line, writer)
+}
+
+// Writes the form of a text that a release reads, as a line.
+fn write_mds_form<W: Write>(
+    alloc: Global,
+    text: &[u8],
+    release: Release,
+    writer: &mut Watched<W>,
+) -> Result<u8, AnswerFault>
+    requires { IsFalse (has_failed writer.old) }
+    ensures ok { OnOk result (IsFalse (has_failed writer.new)) }
+    ensures status { IfOk result (λ status. status ≡ DONE) }
+    ensures form { OnOk result (AnswersGrants (Some release) text.now (W.contents (inner_of writer.old)) (W.contents (inner_of writer.new))) }
+    ensures fault { IfErr result (λ fault. StopsGrants (Some release) text.now fault (has_failed writer.new)
+        (W.contents (inner_of writer.old)) (W.contents (inner_of writer.new))) }
+{
+    match mds_form(alloc, text, release.switches())? {
+        Ok(form) => write_line(form, writer),
+        Err(none) => Err(form_fault(release, none)),
+    }
+}
+
+// Why there is no form.
+fn form_fault(release: Release, none: NoForm) -> AnswerFault
+    ensures { result ≡ form_fault_of release none }
+{
+    match none {
+        NoForm::NotRead(unread) => AnswerFault::NotRead(NotRead {
+            release,
+            at: unread.at,
+        }),
+        NoForm::OfGrant(grant) => AnswerFault::NoForm(release, grant),
+    }
 }
 
 /// Writes in this shape what the grants of one text allow and those of another deny, and the other way round.
@@ -124,23 +258,48 @@ pub fn compare_texts<W: Write>(
     write_text(lines.as_slice(), DONE, writer)
 }
 
-/// Writes in this shape what is found in the grants of a text, and says by the status whether that is anything.
+/// Writes in this shape what is found in the grants of a text, by the rules of a release alone where one is named, and says by the status whether
+/// that is anything.
 pub fn lint<W: Write>(
     alloc: Global,
     text: &[u8],
+    shape: Shape,
+    mds: Option<Release>,
+    writer: &mut Watched<W>,
+) -> Result<u8, AnswerFault>
+    requires { IsFalse (has_failed writer.old) }
+    ensures status { IfOk result (λ status. (status ≡ DONE) ⊎ (status ≡ FOUND)) }
+    ensures ok { OnOk result (IsFalse (has_failed writer.new)) }
+    ensures linted { IfOk result (λ status. AnswersLint mds shape text.now status
+        (W.contents (inner_of writer.old)) (W.contents (inner_of writer.new))) }
+    ensures fault { IfErr result (λ fault. StopsLint mds text.now fault (has_failed writer.new)
+        (W.contents (inner_of writer.old)) (W.contents (inner_of writer.new))) }
+{
+    match mds {
+        Some(release) => {
+            let lines = lint_by(alloc, text, release, shape)?;
+            write_found(lines.as_slice(), shape, writer)
+        }
+        None => {
+            let lines = lint_text(alloc, text, shape)?;
+            write_found(lines.as_slice(), shape, writer)
+        }
+    }
+}
+
+// Writes what was found, or that nothing was, and says which by the status.
+fn write_found<W: Write>(
+    lines: &[u8],
     shape: Shape,
     writer: &mut Watched<W>,
 ) -> Result<u8, AnswerFault>
     requires { IsFalse (has_failed writer.old) }
     ensures status { IfOk result (λ status. (status ≡ DONE) ⊎ (status ≡ FOUND)) }
     ensures ok { OnOk result (IsFalse (has_failed writer.new)) }
-    ensures linted { IfOk result (λ status. AnswersLint shape text.now status
+    ensures written { IfOk result (λ status. WritesFound shape lines.now status
         (W.contents (inner_of writer.old)) (W.contents (inner_of writer.new))) }
-    ensures fault { IfErr result (λ fault. StopsBefore (IsFaultOfText text.now) fault (has_failed writer.new)
-        (W.contents (inner_of writer.old)) (W.contents (inner_of writer.new))) }
+    ensures err { IfErr result (λ fault. (fault ≡ faults.WriteFailed) × IsTrue (has_failed writer.new)) }
 {
-    let lines = lint_text(alloc, text, shape)?;
-    let lines = lines.as_slice();
     if lines.is_empty() {
         write_text(shape.nothing().as_bytes(), DONE, writer)
     } else {

@@ -7,6 +7,7 @@ ghost use Rattle.cli_queries.specs.ExplainArgs.{IsGrantsText, IsListed, IsUnlist
 use crate::fault::AnswerFault;
 use ceph_input::{mds_caps, read_auth};
 use queries::Values;
+use release_rules::Release;
 use std::alloc::Global;
 use std::io::Read;
 use texts::{Watched, read_script};
@@ -66,6 +67,8 @@ pub struct ExplainArgs {
     pub source: Source,
     /// How the question is answered.
     pub form: Form,
+    /// The release by whose rules it is; none is this server.
+    pub mds: Option<Release>,
 }
 
 // Not derived: so the proof of a function that drops one has a single call there.
@@ -75,6 +78,7 @@ impl Drop for ExplainArgs {
             values: _,
             source: _,
             form: _,
+            mds: _,
         } = self;
     }
 }

@@ -3,7 +3,8 @@
 use capspec::SpecFault;
 use ceph_input::{AuthFault, KeyringFault, TreeFault};
 use cluster_audit::HeldFault;
-use queries::{CompareFault, QuestionFault};
+use queries::{CompareFault, MdsFault, NotRead, QuestionFault};
+use release_rules::Release;
 use std::alloc::{AllocError, AllocFailed};
 use std::fmt;
 use std::fmt::Display;
@@ -14,6 +15,10 @@ use texts::ScriptFault;
 pub enum AnswerFault {
     /// The grants can't be read, or another value is bad.
     Question(QuestionFault),
+    /// The release by whose rules is asked does not read the grants.
+    NotRead(NotRead),
+    /// The release reads no form of the grant of this number.
+    NoForm(Release, usize),
     /// One of two texts of grants can't be read.
     Compare(CompareFault),
     /// A keyring has no grants of the client.
@@ -42,6 +47,11 @@ impl Display for AnswerFault {
     fn fmt<W: fmt::Write>(&self, f: &mut fmt::Formatter<W>) -> fmt::Result {
         match self {
             AnswerFault::Question(fault) => Display::fmt(fault, f),
+            AnswerFault::NotRead(fault) => write!(f, "grants: {fault}"),
+            AnswerFault::NoForm(release, grant) => {
+                let version = release.version();
+                write!(f, "grants: Ceph {version} reads no form of grant {grant}",)
+            }
             AnswerFault::Compare(fault) => Display::fmt(fault, f),
             AnswerFault::Keyring(fault) => write!(f, "keyring: {fault}"),
             AnswerFault::Unopened => f.write_str("keyring: Unopened"),
@@ -68,6 +78,21 @@ impl From<QuestionFault> for AnswerFault {
         match asked {
             QuestionFault::NoMemory => AnswerFault::NoMemory,
             _ => AnswerFault::Question(asked),
+        }
+    }
+}
+
+// Where only memory was missing, the grants are not to blame.
+impl From<MdsFault> for AnswerFault {
+    ghost use Rattle.std.specs.Prelude.{◌≡◌};
+    ghost use Rattle.cli_queries.specs.Fault.{mds_fault_of};
+
+    ghost from_gives = { λ found fault. fault ≡ mds_fault_of found };
+
+    fn from(found: MdsFault) -> Self {
+        match found {
+            MdsFault::NotRead(found) => AnswerFault::NotRead(found),
+            MdsFault::NoMemory => AnswerFault::NoMemory,
         }
     }
 }

@@ -5,7 +5,7 @@ ghost use Rattle.cli_queries.specs.Matched.{IsAskedBy};
 use crate::audit_args::{AuditArgs, ClusterFiles};
 use crate::command_line::{
     AUDIT, AUTH, CLIENT, COMPARE, EXPLAIN, GRANTS, INPUT, Invocation, JSON, KEYRING, LINT, LOG,
-    MORE, NEW, OLD, QUIET, RULE, RUN, SERVE, SESSIONS, TEXT, TREE, WHO,
+    MDS, MORE, NEW, OLD, QUIET, RULE, RUN, SERVE, SESSIONS, TEXT, TREE, WHO,
 };
 use crate::explain_args::{ExplainArgs, Form, Source};
 use crate::who_args::WhoArgs;
@@ -13,6 +13,7 @@ use clap::ArgMatches;
 use clap::error::ErrorKind;
 use cluster_audit::{Detail, Manner};
 use queries::{AttemptValues, AttrValues, Opt, Telling, Values, spelled};
+use release_rules::Release;
 use std::alloc::Global;
 use texts::Shape;
 
@@ -40,8 +41,8 @@ struct Matched<'m, 'a> {
 }
 
 impl Matched<'_, '_> {
-    ghost use Rattle.cli_queries.specs.Matched.{AreValues, AsksFor, IsAttr, IsAuditArgs, IsExplainArgs, IsFlag, IsForm, IsGiven, IsManner, IsOption, IsShape};
-    ghost use Rattle.cli_queries.specs.Matched.{IsSource, IsTelling, IsValue, IsWhoArgs, words_of};
+    ghost use Rattle.cli_queries.specs.Matched.{AreValues, AsksFor, IsAttr, IsAuditArgs, IsExplainArgs, IsFlag, IsForm, IsGiven, IsManner, IsMds, IsOption};
+    ghost use Rattle.cli_queries.specs.Matched.{IsShape, IsSource, IsTelling, IsValue, IsWhoArgs, words_of};
 
     // What a command asks for that takes a few texts, or a script.
     fn on_texts(&self, name: &str) -> Result<Invocation, ErrorKind>
@@ -51,6 +52,7 @@ impl Matched<'_, '_> {
             GRANTS => Ok(Invocation::Grants {
                 text: self.value(TEXT)?,
                 more: self.says(MORE),
+                mds: self.mds()?,
             }),
             COMPARE => Ok(Invocation::Compare {
                 old: self.value(OLD)?,
@@ -60,6 +62,7 @@ impl Matched<'_, '_> {
             LINT => Ok(Invocation::Lint {
                 text: self.value(TEXT)?,
                 shape: self.shape(),
+                mds: self.mds()?,
             }),
             LOG => Ok(Invocation::Log(self.option(Opt::Fs)?)),
             _ => self.on_script(name),
@@ -84,10 +87,12 @@ impl Matched<'_, '_> {
         let values = self.values()?;
         let source = self.source(values.grants.as_slice())?;
         let form = self.form();
+        let mds = self.mds()?;
         Ok(ExplainArgs {
             values,
             source,
             form,
+            mds,
         })
     }
 
@@ -220,6 +225,19 @@ impl Matched<'_, '_> {
             group: self.option(Opt::Group)?,
             mode: self.option(Opt::Mode)?,
         }))
+    }
+
+    // The release by whose rules is answered, if one is named. One that was not asked is no valid value.
+    fn mds(&self) -> Result<Option<Release>, ErrorKind>
+        ensures { IfOk result (IsMds (words_of self.now.matches.now)) }
+    {
+        let Some(word) = self.given(MDS)? else {
+            return Ok(None);
+        };
+        match Release::read(word.as_slice()) {
+            Some(release) => Ok(Some(release)),
+            None => Err(ErrorKind::InvalidValue),
+        }
     }
 
     fn option(&self, option: Opt) -> Result<Vec<u8>, ErrorKind>

@@ -1,8 +1,8 @@
 //! The commands of the program and the words of each, as its help tells them.
 
 use crate::command_line::{
-    AUDIT, AUTH, CLIENT, COMPARE, EXPLAIN, GRANTS, JSON, KEYRING, LINT, LOG, MORE, NEW, OLD, QUIET,
-    RULE, RUN, SERVE, SESSIONS, TEXT, TREE, WHO,
+    AUDIT, AUTH, CLIENT, COMPARE, EXPLAIN, GRANTS, JSON, KEYRING, LINT, LOG, MDS, MORE, NEW, OLD,
+    QUIET, RULE, RUN, SERVE, SESSIONS, TEXT, TREE, WHO,
 };
 use queries::Opt;
 
@@ -83,7 +83,9 @@ const LINT_EXAMPLE: &str = "Example:
   capd lint 'allow rw root_squash, allow rw path=/a, allow r path=/a/b'
 prints
   grant 1: root_squash undone, write /a fs x uid 0 gid 0 groups - owner 0 group 0 mode 0600 grant 2
-  grant 3: covered by the others";
+  grant 3: covered by the others
+  grant 1: Ceph 18 and 20: refused by clients, chmod /a/b fs x uid 1 gid 1 groups - owner 1 group 0 mode 0600 grant 3
+  grant 2: Ceph 18 and 20: refused by clients, chmod /a/b fs x uid 1 gid 1 groups - owner 1 group 0 mode 0600 grant 3";
 
 const WHO_EXAMPLE: &str = "Example:
   ceph auth ls -f json | capd who write /projects --auth -
@@ -94,8 +96,8 @@ prints a line for each client, such as
 
 const AUDIT_EXAMPLE: &str = "Example:
   ceph auth ls -f json > auth.json
-  ceph tell mds.0 session ls > sessions.json
-  ceph tell mds.0 dump tree / | capd audit --auth auth.json --sessions sessions.json --tree -
+  ceph tell mds.FS:0 session ls > sessions.json
+  ceph tell mds.FS:0 dump tree / | capd audit --auth auth.json --sessions sessions.json --tree -
 prints for each client and inode of which it holds what nobody behind its key is permitted, such as
   /a/y client.reader session 4151 holds pAsLsXsFrw, may not Fw: grant 1 rule 5 no-write
 and for each two clients that hold of an inode what no two may hold together, such as
@@ -142,6 +144,16 @@ const FILE_SYSTEM: Word = Word {
     bars: &[],
 };
 
+// By whose rules is answered.
+const BY_RELEASE: Word = Word {
+    name: Name::Own(MDS),
+    value: "RELEASE",
+    help: "Answers as the MDS of a release of Ceph does, and by its rules alone: 16 (16.2.15), 18 (18.2.7) or 20 (20.2.4)",
+    kind: Kind::Optional,
+    needs: None,
+    bars: &[],
+};
+
 const PRINTS_JSON: Word = Word {
     name: Name::Own(JSON),
     value: "",
@@ -161,7 +173,7 @@ const JSON_OR_MORE: Word = Word {
     bars: &[Name::Own(MORE)],
 };
 
-const EXPLAIN_WORDS: [Word; 16] = [
+const EXPLAIN_WORDS: [Word; 17] = [
     Word {
         name: Name::Of(Opt::Grants),
         value: "TEXT",
@@ -269,7 +281,7 @@ const EXPLAIN_WORDS: [Word; 16] = [
     Word {
         name: Name::Own(MORE),
         value: "",
-        help: "Prints further lines, for what the grants leave to the client and where the MDS of Ceph 16 decides otherwise",
+        help: "Prints further lines, for what the grants leave to the client and where the MDS of a release of Ceph decides otherwise",
         kind: Kind::Flag,
         needs: None,
         bars: &[],
@@ -283,6 +295,7 @@ const EXPLAIN_WORDS: [Word; 16] = [
         needs: None,
         bars: &[Name::Own(MORE), Name::Own(JSON)],
     },
+    BY_RELEASE,
 ];
 
 // What stops a script.
@@ -295,7 +308,7 @@ const SCRIPT_WORDS: [Word; 1] = [Word {
     bars: &[],
 }];
 
-const GRANTS_WORDS: [Word; 2] = [
+const GRANTS_WORDS: [Word; 3] = [
     Word {
         name: Name::Own(TEXT),
         value: "TEXT",
@@ -309,6 +322,14 @@ const GRANTS_WORDS: [Word; 2] = [
         value: "",
         help: "Shows on standard error the place of a fault in the text",
         kind: Kind::Flag,
+        needs: None,
+        bars: &[],
+    },
+    Word {
+        name: Name::Own(MDS),
+        value: "RELEASE",
+        help: "Writes the form that the MDS of a release of Ceph reads: 16 (16.2.15), 18 (18.2.7) or 20 (20.2.4)",
+        kind: Kind::Optional,
         needs: None,
         bars: &[],
     },
@@ -334,7 +355,7 @@ const COMPARE_WORDS: [Word; 3] = [
     PRINTS_JSON,
 ];
 
-const LINT_WORDS: [Word; 2] = [
+const LINT_WORDS: [Word; 3] = [
     Word {
         name: Name::Own(TEXT),
         value: "TEXT",
@@ -344,6 +365,14 @@ const LINT_WORDS: [Word; 2] = [
         bars: &[],
     },
     PRINTS_JSON,
+    Word {
+        name: Name::Own(MDS),
+        value: "RELEASE",
+        help: "Says what is found by the rules of a release of Ceph alone, as it reads the text: 16 (16.2.15), 18 (18.2.7) or 20 (20.2.4)",
+        kind: Kind::Optional,
+        needs: None,
+        bars: &[],
+    },
 ];
 
 const WHO_WORDS: [Word; 9] = [
@@ -419,7 +448,7 @@ const AUDIT_WORDS: [Word; 6] = [
     Word {
         name: Name::Own(SESSIONS),
         value: "FILE",
-        help: "The sessions, as `ceph tell mds.N session ls` prints them",
+        help: "The sessions, as `ceph tell mds.FS:N session ls` prints them",
         kind: Kind::Needed,
         needs: None,
         bars: &[],
@@ -427,7 +456,7 @@ const AUDIT_WORDS: [Word; 6] = [
     Word {
         name: Name::Own(TREE),
         value: "FILE",
-        help: "The tree, as `ceph tell mds.N dump tree /` prints it; - for standard input",
+        help: "The tree, as `ceph tell mds.FS:N dump tree /` prints it; - for standard input",
         kind: Kind::Needed,
         needs: None,
         bars: &[],
@@ -466,7 +495,7 @@ pub(crate) const COMMANDS: [Usage; 9] = [
     },
     Usage {
         name: LINT,
-        about: "Says which grants are covered by the others, allow nothing, let root do what another keeps it from, or are not read by Ceph 16",
+        about: "Says which grants are covered by the others, allow nothing, let root do what another keeps it from, or mean something else to Ceph",
         example: LINT_EXAMPLE,
         words: &LINT_WORDS,
     },

@@ -1,12 +1,12 @@
 //! The command that tells which clients of a cluster may make an access.
-ghost use Rattle.std.specs.Prelude.{◌≡◌, OnOk, IfOk, IfErr, IsFalse};
+ghost use Rattle.std.specs.Prelude.{◌≡◌, ◌⊎◌, OnOk, IfOk, IfErr, IsFalse, if◌then◌else◌};
 ghost use Rattle.texts.specs.Watched.{has_ended, has_failed, inner_of};
 ghost use Rattle.cli_queries.specs.WhoArgs.{AnswersWhoArgs, StopsWhoArgs};
 
 use crate::commands::write_text;
 use crate::fault::AnswerFault;
-use crate::status::DONE;
-use queries::{Attempt, AttemptValues, Telling, who_lines};
+use crate::status::{DONE, FOUND};
+use queries::{Attempt, AttemptValues, Telling, WhoAnswer, who_lines};
 use std::alloc::Global;
 use std::io::{Read, Write};
 use texts::{Watched, read_script};
@@ -32,7 +32,8 @@ impl Drop for WhoArgs {
     }
 }
 
-/// Writes a line for each client of the auth list that the reader has.
+/// Writes a line for each client of the auth list that the reader has, and for each other entity with grants for the MDS; and says by the status
+/// whether all of them could be judged.
 pub fn who<R: Read, W: Write>(
     alloc: Global,
     who_args: &WhoArgs,
@@ -42,15 +43,23 @@ pub fn who<R: Read, W: Write>(
     requires reader_clear { IsFalse (has_failed reader.old) }
     requires reader_unended { IsFalse (has_ended reader.old) }
     requires writer_clear { IsFalse (has_failed writer.old) }
-    ensures status { IfOk result (λ status. status ≡ DONE) }
+    ensures status { IfOk result (λ status. (status ≡ DONE) ⊎ (status ≡ FOUND)) }
     ensures ok { OnOk result (IsFalse (has_failed reader.new) × IsFalse (has_failed writer.new)) }
-    ensures reported { OnOk result (AnswersWhoArgs who_args.now (R.remaining (inner_of reader.old))
+    ensures reported { IfOk result (λ status. AnswersWhoArgs who_args.now (R.remaining (inner_of reader.old)) status
         (W.contents (inner_of writer.old)) (W.contents (inner_of writer.new))) }
     ensures err { IfErr result (λ fault. StopsWhoArgs who_args.now fault (R.remaining (inner_of reader.old))
         (has_failed reader.new) (has_failed writer.new) (W.contents (inner_of writer.old)) (W.contents (inner_of writer.new))) }
 {
     let attempt = Attempt::read(alloc, &who_args.values)?;
     let auth = read_script(alloc, reader)?;
-    let lines = who_lines(alloc, auth.as_slice(), &attempt, who_args.telling)?;
-    write_text(lines.as_slice(), DONE, writer)
+    let answer = who_lines(alloc, auth.as_slice(), &attempt, who_args.telling)?;
+    let status = status_of(&answer);
+    write_text(answer.lines.as_slice(), status, writer)
+}
+
+// The status that says whether all of them could be judged.
+fn status_of(answer: &WhoAnswer) -> u8
+    ensures { result ≡ (if answer.now.judges_all then 0 else 3) }
+{
+    if answer.judges_all { DONE } else { FOUND }
 }

@@ -31,3 +31,6 @@ pub mod Firsts
 pub mod Reasons
 pub mod Answers
 pub mod Reported
+pub mod Odd
+pub mod Alike
+pub mod Listed

@@ -13,3 +13,6 @@ pub mod Differences
 pub mod Callers
 pub mod Standing
 pub mod Otherwise
+pub mod Releases
+pub mod Oddities
+pub mod Refusals

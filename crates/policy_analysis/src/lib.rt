@@ -1,6 +1,6 @@
 //! What grants say to more than one question: what one list of grants allows and another denies, with a question that shows it;
-//! what is to be looked at in a list; what some caller behind a client's key may do; and where the MDS of Ceph 16 is known to decide
-//! otherwise, or reads the grants of a text otherwise than they stand there.
+//! what is to be looked at in a list, also by the rules of releases of Ceph; what some caller behind a client's key may do; and where the MDS
+//! of Ceph 16 is known to decide otherwise, or reads the grants of a text otherwise than they stand there.
 //!
 //! Public source: "CephFS Client Capabilities" in the Ceph documentation; what Ceph 16 takes of the grammar was asked of its reader.
 #![tactic(auto)]
@@ -18,8 +18,12 @@ mod finding;
 mod free;
 mod items;
 mod left;
+mod oddity;
+mod oddity_laws;
 mod otherwise;
 mod redundant;
+mod refusal;
+mod releases;
 mod search;
 mod squash;
 mod standing;
@@ -32,6 +36,9 @@ pub use compare::{gained, lost};
 pub use differences::{Difference, Otherwise, answered_otherwise};
 pub use finding::{Finding, lint};
 pub use left::left_to_client;
+pub use oddity::{OddGrant, Oddity, oddities};
+pub use refusal::{Refusal, paths_of, refusals};
+pub use releases::Releases;
 pub use standing::Standing;
 pub use unread::{Unread, unread_grants};
 pub use witness::Witness;

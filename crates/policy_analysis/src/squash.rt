@@ -3,7 +3,7 @@
 ghost use Rattle.std.specs.Prelude.{◌≡◌, ◌≤◌, ◌<◌, ◌+◌, false, Some, position, length, IfOk, IfNone, IfSome, MatchOption, Contains};
 ghost use Rattle.capgrant.specs.Verdict.{allows, granted};
 ghost use Rattle.policy_analysis.specs.Linting.{IsSquashed, IsUndoing, KeepsSquash, unsquashed};
-ghost use Rattle.policy_analysis.specs.Squashing.{KeepsAgainst, fs_of, longer, owned_by, root_of, with_first};
+ghost use Rattle.policy_analysis.specs.Squashing.{KeepsAgainst, fs_of, longer, owned_by, root_of, with_first_of};
 
 use crate::asking::{caller, mode_of, with_group};
 use crate::dots::is_one_dots;
@@ -96,8 +96,8 @@ fn without_squash(grant: &Grant) -> Result<Grant, AllocError>
     Ok(would)
 }
 
-// The longer of two paths, where one is the beginning of the other.
-fn longer<'a>(
+/// The longer of two paths, where one is the beginning of the other.
+pub(crate) fn longer<'a>(
     alloc: Global,
     one: &'a TreePath,
     other: &'a TreePath,
@@ -134,23 +134,24 @@ fn root_of(grant: &Grant, other: &Grant) -> Caller
     ensures { result ≡ root_of grant.now other.now }
 {
     let uid = grant.uid.or(other.uid).unwrap_or(0);
-    with_first(&with_first(&caller(uid, 0), grant), other)
+    let root = with_first_of(&caller(uid, 0), grant.gids.as_slice());
+    with_first_of(&root, other.gids.as_slice())
 }
 
-// The caller, in the first group that the grant lists.
-fn with_first(caller: &Caller, grant: &Grant) -> Caller
+/// The caller, in the first of these groups.
+pub(crate) fn with_first_of(caller: &Caller, gids: &[u32]) -> Caller
     requires { length caller.now.groups < 2 }
-    ensures same { result ≡ with_first caller.now grant.now }
+    ensures same { result ≡ with_first_of caller.now gids.now }
     ensures few { length result.groups ≤ length caller.now.groups + 1 }
 {
-    match grant.gids.as_slice().first() {
+    match gids.first() {
         Some(gid) => with_group(caller, *gid),
         None => caller.copy(),
     }
 }
 
-// An inode of this user's, who may read and write it.
-fn owned_by(uid: u32) -> Attr
+/// An inode of this user's, who may read and write it.
+pub(crate) fn owned_by(uid: u32) -> Attr
     ensures { result ≡ owned_by uid }
 {
     Attr {

@@ -1,7 +1,7 @@
 -- The text of `who` tells one client after the other.
 use Rattle.std.proofs.Common.{◌≡◌, ◌≢◌, ℕ, ◌<◌, ◌≤◌, ◌^◌, inl, inr, Bool, true, false, Option, Some, None, List, [], ◌∷◌, ◌++◌, drop, length, map, refl, sym}
 use Rattle.std.proofs.Common.{ap, ◌∙◌, append_assoc, length-append, arith}
-use Rattle.std.specs.Prelude.{codes, All, IfSome, ◌==◌, if◌then◌else◌}
+use Rattle.std.specs.Prelude.{bytes_eq, codes, All, IfSome, ◌==◌, if◌then◌else◌}
 use Rattle.std.specs.Fmt.{decimal}
 use Rattle.std.specs.List.{AllZip, flat_map}
 use Rattle.std.proofs.lemmas.List.{append-nil, append_cancel_left}
@@ -30,7 +30,7 @@ use Rattle.texts.proofs.Clients.{has_word, kind_of}
 use Rattle.texts.proofs.Quoted.{bare, before_word, clash, first_byte}
 use Rattle.queries.specs.declared.clients.Telling.{Telling}
 use Rattle.queries.specs.declared.clients.Telling.TheVariants.{Line, More, Object}
-use Rattle.queries.specs.Clients.{AreLines, Says, standing_in, unread_in}
+use Rattle.queries.specs.Clients.{AreLines, Says, meant, standing_in, unread_in}
 use Rattle.queries.specs.Clients.AreLines.{another, client, no_more}
 use Rattle.queries.specs.ClientsReported.{HasLength, HasNumbers, Reported, SameReported, There, reported_lines, there_line}
 use Rattle.queries.specs.ClientsReported.Reported.{judged, unread}
@@ -377,6 +377,17 @@ module _ (name : List ℕ) where
   of_fault More w attr fault lines small = one HasNumbers reported_lines (unread name fault) small
   of_fault Object w attr fault lines small = absurd (lines refl)
 
+-- the text that is judged is no longer
+ten : length (codes "allow rwps") ≡ 10
+ten = refl
+
+is_short : (text : List ℕ) → length text < 2 ^ 64 → length (meant text) < 2 ^ 64
+is_short text short = by_case (bytes_eq text (codes "allow"))
+  where
+    by_case : (b : Bool) → length (if b then codes "allow rwps" else text) < 2 ^ 64
+    by_case true = omega (arith, ten)
+    by_case false = short
+
 first : (Does Not : Grant → Type 0) (grants : List Grant) (number : ℕ) → length grants ≤ 16 → IsFirst Does Not grants number → number < 2 ^ 32
 first Does Not grants number few is = omega (arith, few, is.counted, ap (λ (gs : List Grant). length gs) is.order ∙ length-append is.before (is.grant ∷ is.after))
 
@@ -393,19 +404,20 @@ module _ (telling : Telling) (w : Wanted) (attr : Option Attr) (lines : telling 
   small_other grants None few is = tt
   small_other grants (Some o) few is = first _ _ grants o.grant few is.first
 
-  of_client : (name : List ℕ) (caps : Option (List ℕ)) (line : List ℕ) → IfSome caps (λ text. length text < 2 ^ 64) → Says telling w attr name caps line → AreReported line
-  of_client name None line short says = same_as line (standing_in telling name w attr (Denied []) None) says (of_standing name telling w attr (Denied []) None lines number tt tt)
-  of_client name (Some text) line short (inl is) =
+  of_client : (name : List ℕ) (caps : Option (List ℕ)) (is_judged : Bool) (line : List ℕ) → IfSome caps (λ text. length text < 2 ^ 64) → Says telling w attr name caps is_judged line → AreReported line
+  of_client name None is_judged line short says = same_as line (standing_in telling name w attr (Denied []) None) says.1 (of_standing name telling w attr (Denied []) None lines number tt tt)
+  of_client name (Some text) is_judged line short (inl (true_is, is)) =
       same_as line (standing_in telling name w attr is.standing is.other) is.line_is
       (of_standing name telling w attr is.standing is.other lines number (small_standing attr is.grants is.standing is.means.few is.answers) (small_other is.grants is.other is.means.few is.otherwise))
-  of_client name (Some text) line short (inr is) =
-      same_as line (unread_in telling name w attr is.fault) is.line_is (of_fault name telling w attr is.fault lines (omega (arith, short, ap (λ (f : SpecFault). f.at) is.first.2)))
+  of_client name (Some text) is_judged line short (inr (false_is, is)) =
+      same_as line (unread_in telling name w attr is.fault) is.line_is (of_fault name telling w attr is.fault lines (let small = is_short text short in omega (arith, small, ap (λ (f : SpecFault). f.at) is.first.2)))
 
-  of_clients : (es : List Named) (text : List ℕ) → All HasLength es → AreLines telling w attr es text → AreReported text
-  of_clients es text short no_more = none HasNumbers reported_lines
-  of_clients (e ∷ es) text short (client line rest is says more) = both HasNumbers reported_lines line rest (of_client e.name e.caps line (All-head HasLength e es short) says) (of_clients es rest (All-tail HasLength e es short) more)
-  of_clients (e ∷ es) text short (another is more) = of_clients es text (All-tail HasLength e es short) more
+  of_clients : (es : List Named) (is_judged : Bool) (text : List ℕ) → All HasLength es → AreLines telling w attr es is_judged text → AreReported text
+  of_clients es is_judged text short no_more = none HasNumbers reported_lines
+  of_clients (e ∷ es) all text short (client is_judged others line rest is says more) =
+      both HasNumbers reported_lines line rest (of_client e.name e.caps is_judged line (All-head HasLength e es short) says) (of_clients es others rest (All-tail HasLength e es short) more)
+  of_clients (e ∷ es) is_judged text short (another is more) = of_clients es is_judged text (All-tail HasLength e es short) more
 
-pub each_has_its_lines : (telling : Telling) (w : Wanted) (attr : Option Attr) (es : List Named) (text : List ℕ) → telling ≢ Object → HasNumber w.access → All HasLength es → AreLines telling w attr es text
+pub each_has_its_lines : (telling : Telling) (w : Wanted) (attr : Option Attr) (es : List Named) (is_judged : Bool) (text : List ℕ) → telling ≢ Object → HasNumber w.access → All HasLength es → AreLines telling w attr es is_judged text
     → (xs : List Reported) × All HasNumbers xs × (text ≡ flat_map reported_lines xs)
-each_has_its_lines telling w attr es text lines number short are = of_clients telling w attr lines number es text short are
+each_has_its_lines telling w attr es is_judged text lines number short are = of_clients telling w attr lines number es is_judged text short are

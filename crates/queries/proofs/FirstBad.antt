@@ -1,8 +1,8 @@
 -- Each option in turn is the first bad one.
-use Rattle.std.proofs.Common.{◌≡◌, ℕ, List, ◌∷◌, ◌++◌, subst, refl, sym, ap, ◌∙◌, append_assoc}
+use Rattle.std.proofs.Common.{◌≡◌, ℕ, List, [], ◌∷◌, ◌++◌, subst, refl, sym, ap, ◌∙◌, append_assoc}
 use Rattle.std.specs.Prelude.{◌≢◌, Result, Ok, Err, IfErr, IsErrAnd, All}
 use Rattle.std.specs.List.{AllByRecursion}
-use Rattle.std.proofs.lemmas.List.Elements.{All-append, All-from_recursion}
+use Rattle.std.proofs.lemmas.List.Elements.{All-append, All-cons, All-from_recursion}
 use Rattle.capspec.specs.declared.grant.Grant.{Grant}
 use Rattle.capspec.specs.declared.fault.SpecFault.{SpecFault}
 use Rattle.capspec.specs.Faults.{IsFault}
@@ -13,8 +13,8 @@ use Rattle.queries.specs.declared.fault.QuestionFault.TheVariants.{BadValue}
 use Rattle.queries.specs.declared.options.Opt.{Opt}
 use Rattle.queries.specs.declared.options.Opt.TheVariants.{Grants, Path}
 use Rattle.queries.specs.declared.question.Values.{Values}
-use Rattle.queries.specs.Options.{all_options}
-use Rattle.queries.specs.Question.{IsBadAmong, IsFaultIn, IsFirstBad, IsGood}
+use Rattle.queries.specs.Options.{all_options, asking_options}
+use Rattle.queries.specs.Question.{IsBadAmong, IsFaultIn, IsFaultOfAsking, IsFirstBad, IsGood}
 use Rattle.queries.specs.Values.{ArePathNames}
 
 -- nothing is what its value means
@@ -57,6 +57,17 @@ first_behind v front options back option good first = record {
 pub names_first_bad : {T : Type 0} (v : Values) (front options back : List Opt) (fault : QuestionFault) (r : Result T QuestionFault) → all_options ≡ front ++ options ++ back → AllByRecursion (IsGood v) front → IsBadAmong v options fault → r ≡ Err fault → IfErr r (IsFaultIn v)
 names_first_bad v front options back fault r order good bad is =
     rw (is, bad.1) (bad.2, subst (λ (os : List Opt). IsFirstBad v os bad.0) (sym order) (first_behind v front options back bad.0 (All-from_recursion (IsGood v) front good) bad.3))
+
+-- the same of all but the grants
+pub names_bad_asking : {T : Type 0} (v : Values) (front options back : List Opt) (fault : QuestionFault) (r : Result T QuestionFault) → asking_options ≡ front ++ options ++ back → AllByRecursion (IsGood v) front → IsBadAmong v options fault → r ≡ Err fault → IfErr r (IsFaultOfAsking v)
+names_bad_asking v front options back fault r order good bad is =
+    rw (is, bad.1) (bad.0, refl, bad.2, subst (λ (os : List Opt). IsFirstBad v os bad.0) (sym order) (first_behind v front options back bad.0 (All-from_recursion (IsGood v) front good) bad.3))
+
+-- grants that are good, and a fault behind them
+pub bad_asking : {T : Type 0} (v : Values) (fault : QuestionFault) (r : Result T QuestionFault) → IsGood v Grants → IsFaultOfAsking v fault → r ≡ Err fault → IfErr r (IsFaultIn v)
+bad_asking v (faults.Grants refused) r good none is = absurd none
+bad_asking v (BadValue option) r good bad is = names_first_bad v (Grants ∷ []) asking_options [] (BadValue option) r refl (good, tt) bad is
+bad_asking v faults.NoMemory r good all is = rw is (All-cons (IsGood v) Grants asking_options good all)
 
 -- the fault of the grants
 pub bad_grants : {T : Type 0} (v : Values) (fault : QuestionFault) (r : Result T QuestionFault) → (refused : SpecFault) × (fault ≡ faults.Grants refused) × IsFault v.grants.items refused → r ≡ Err fault → IfErr r (IsFaultIn v)

@@ -1,5 +1,5 @@
 -- Which clients of a cluster may make an access.
-use Rattle.std.specs.Prelude.{◌≡◌, ◌⊎◌, ℕ, true, false, Option, Some, None, Ok, List, [], ◌∷◌, ◌++◌}
+use Rattle.std.specs.Prelude.{◌≡◌, ◌⊎◌, ◌||◌, ◌&&◌, ℕ, Bool, true, false, bytes_eq, codes, Option, Some, None, is_some, Ok, List, [], ◌∷◌, ◌++◌, if◌then◌else◌}
 use Rattle.capspec.specs.declared.fault.SpecFault.{SpecFault}
 use Rattle.capspec.specs.declared.grant.Grant.{Grant}
 use Rattle.capspec.specs.Faults.{IsFault}
@@ -15,6 +15,7 @@ use Rattle.policy_analysis.specs.declared.differences.Otherwise.{Otherwise}
 use Rattle.texts.specs.Standing.{standing_line, standing_otherwise, unread_line}
 use Rattle.texts.specs.Standings.{standing_object, unread_object}
 use Rattle.queries.specs.declared.clients.Telling.{Telling}
+use Rattle.queries.specs.declared.clients.WhoAnswer.{WhoAnswer}
 use Rattle.queries.specs.declared.clients.Telling.TheVariants.{Line, More, Object}
 
 -- what is said of a client, told in this way: a line; or this with one for each difference by which the MDS of Ceph 16 answers somebody
@@ -29,6 +30,14 @@ abbrev pub unread_in : Telling → List ℕ → Wanted → Option Attr → SpecF
 unread_in Line client w attr fault = unread_line client fault
 unread_in More client w attr fault = unread_line client fault
 unread_in Object client w attr fault = unread_object client w attr fault
+
+-- a client, or another who has grants for the MDS
+abbrev pub is_told : Named → Bool
+is_told e = is_client e || is_some e.caps
+
+-- the text whose grants are judged: `allow` alone, which the MDS of each release reads, allows all that `allow rwps` does
+abbrev pub meant : List ℕ → List ℕ
+meant text = if bytes_eq text (codes "allow") then codes "allow rwps" else text
 
 -- the line says what the grants that the text means say, and what the MDS makes of them
 pub record IsJudged (telling : Telling) (w : Wanted) (attr : Option Attr) (client text line : List ℕ) : Type 0 where
@@ -46,19 +55,21 @@ pub record IsUnread (telling : Telling) (w : Wanted) (attr : Option Attr) (clien
   pub first : IsFault text fault
   pub line_is : line ≡ unread_in telling client w attr fault
 
--- what the line of a client says by the text of its grants; a client without grants is denied everything, by no rule
-abbrev pub Says : Telling → Wanted → Option Attr → List ℕ → Option (List ℕ) → List ℕ → Type 0
-Says telling w attr client None line = line ≡ standing_in telling client w attr (Denied []) None
-Says telling w attr client (Some text) line = IsJudged telling w attr client text line ⊎ IsUnread telling w attr client text line
+-- What the line of a client says by the text of its grants, and whether it could be judged. One without grants is denied everything, by no rule.
+abbrev pub Says : Telling → Wanted → Option Attr → List ℕ → Option (List ℕ) → Bool → List ℕ → Type 0
+Says telling w attr client None judged line = (judged ≡ true) × (line ≡ standing_in telling client w attr (Denied []) None)
+Says telling w attr client (Some text) judged line =
+    ((judged ≡ true) × IsJudged telling w attr client (meant text) line) ⊎ ((judged ≡ false) × IsUnread telling w attr client (meant text) line)
 
--- a line for each client of the list, in its order
-pub data AreLines (telling : Telling) (w : Wanted) (attr : Option Attr) : List Named → List ℕ → Type 0 where
-  no_more : AreLines telling w attr [] []
-  client : {e : Named} {es : List Named} (line lines : List ℕ) → is_client e ≡ true → Says telling w attr e.name e.caps line → AreLines telling w attr es lines → AreLines telling w attr (e ∷ es) (line ++ lines)
-  another : {e : Named} {es : List Named} {lines : List ℕ} → is_client e ≡ false → AreLines telling w attr es lines → AreLines telling w attr (e ∷ es) lines
+-- a line for each of whom is told, in the order of the list, and whether all of them could be judged
+pub data AreLines (telling : Telling) (w : Wanted) (attr : Option Attr) : List Named → Bool → List ℕ → Type 0 where
+  no_more : AreLines telling w attr [] true []
+  client : {e : Named} {es : List Named} (judged others : Bool) (line lines : List ℕ) → is_told e ≡ true → Says telling w attr e.name e.caps judged line → AreLines telling w attr es others lines
+      → AreLines telling w attr (e ∷ es) (judged && others) (line ++ lines)
+  another : {e : Named} {es : List Named} {others : Bool} {lines : List ℕ} → is_told e ≡ false → AreLines telling w attr es others lines → AreLines telling w attr (e ∷ es) others lines
 
 -- the lines are those of the auth list that the text is
-pub record AnswersWho (telling : Telling) (w : Wanted) (attr : Option Attr) (text lines : List ℕ) : Type 0 where
+pub record AnswersWho (telling : Telling) (w : Wanted) (attr : Option Attr) (text : List ℕ) (answer : WhoAnswer) : Type 0 where
   pub list : List Named
   pub means : auth_of text ≡ Some (Ok list)
-  pub lines_are : AreLines telling w attr list lines
+  pub lines_are : AreLines telling w attr list answer.judges_all answer.lines.items

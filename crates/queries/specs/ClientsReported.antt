@@ -55,5 +55,5 @@ HasLength e = IfSome e.caps (λ text. length text < 2 ^ 64)
 
 -- what `who` prints, if not objects, is such a text
 abbrev pub EachHasItsLines : Type 0
-EachHasItsLines = (telling : Telling) (w : Wanted) (attr : Option Attr) (es : List Named) (lines : List ℕ) → telling ≢ Object → HasNumber w.access
-    → All HasLength es → AreLines telling w attr es lines → (xs : List Reported) × All HasNumbers xs × (lines ≡ flat_map reported_lines xs)
+EachHasItsLines = (telling : Telling) (w : Wanted) (attr : Option Attr) (es : List Named) (judged : Bool) (lines : List ℕ) → telling ≢ Object → HasNumber w.access
+    → All HasLength es → AreLines telling w attr es judged lines → (xs : List Reported) × All HasNumbers xs × (lines ≡ flat_map reported_lines xs)

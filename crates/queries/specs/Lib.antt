@@ -2,6 +2,7 @@ pub mod Options
 pub mod Fault
 pub mod Values
 pub mod Question
+pub mod Mds
 pub mod Remarks
 pub mod Comparing
 pub mod Linting

@@ -3,9 +3,13 @@ use Rattle.std.specs.Prelude.{ℕ, List, [], ◌∷◌, codes}
 use Rattle.queries.specs.declared.options.Opt.{Opt}
 use Rattle.queries.specs.declared.options.Opt.TheVariants.{Access, Fs, Gid, Grants, Group, Groups, Mode, Owner, Path, Uid}
 
--- every option, in the order in which their values are tested
+-- every option but the grants, in the order in which their values are tested
+abbrev pub asking_options : List Opt
+asking_options = Fs ∷ Uid ∷ Gid ∷ Groups ∷ Path ∷ Owner ∷ Group ∷ Mode ∷ Access ∷ []
+
+-- every option, in that order
 abbrev pub all_options : List Opt
-all_options = Grants ∷ Fs ∷ Uid ∷ Gid ∷ Groups ∷ Path ∷ Owner ∷ Group ∷ Mode ∷ Access ∷ []
+all_options = Grants ∷ asking_options
 
 -- the name of an option, without its two dashes
 abbrev pub option_name : Opt → List ℕ

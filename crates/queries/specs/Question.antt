@@ -15,10 +15,11 @@ use Rattle.queries.specs.declared.fault.QuestionFault.TheVariants as faults
 use Rattle.queries.specs.declared.options.Opt.{Opt}
 use Rattle.queries.specs.declared.options.Opt.TheVariants.{Access, Fs, Gid, Grants, Group, Groups, Mode, Owner, Path, Uid}
 use Rattle.queries.specs.declared.question.Values.{Values}
+use Rattle.queries.specs.declared.question.Asking.{Asking}
 use Rattle.queries.specs.declared.question.Question.{Question}
 use Rattle.texts.specs.Access.{IsAccessWord}
 use Rattle.texts.specs.Explaining.{explain_text}
-use Rattle.queries.specs.Options.{all_options}
+use Rattle.queries.specs.Options.{all_options, asking_options}
 use Rattle.queries.specs.Values.{AreGroupsIf, ArePathNames, IsFs, IsModeText}
 
 -- the values ask the question
@@ -33,6 +34,18 @@ pub record AsksFor (v : Values) (q : Question) : Type 0 where
   pub group : IsNumber v.group.items q.attr.gid
   pub mode : IsModeText v.mode.items q.attr.mode
   pub access : IsAccessWord v.access.items q.access
+
+-- they ask this, whatever the grants
+pub record Asks (v : Values) (a : Asking) : Type 0 where
+  pub fs : IsFs v.fs.items a.fs
+  pub uid : IsNumber v.uid.items a.caller.uid
+  pub gid : IsNumber v.gid.items a.caller.gid
+  pub groups : AreGroupsIf v.groups a.caller.groups
+  pub path : ArePathNames v.path.items a.path
+  pub owner : IsNumber v.owner.items a.attr.uid
+  pub group : IsNumber v.group.items a.attr.gid
+  pub mode : IsModeText v.mode.items a.attr.mode
+  pub access : IsAccessWord v.access.items a.access
 
 -- the values name the caller
 abbrev pub IsCaller : Values → Caller → Type 0
@@ -72,6 +85,12 @@ abbrev pub IsFaultIn : Values → QuestionFault → Type 0
 IsFaultIn v (faults.Grants refused) = IsFault v.grants.items refused
 IsFaultIn v (faults.BadValue option) = (option ≢ Grants) × IsFirstBad v all_options option
 IsFaultIn v faults.NoMemory = All (IsGood v) all_options
+
+-- why they ask nothing even so: the first fault behind the grants, or want of memory where there is none
+abbrev pub IsFaultOfAsking : Values → QuestionFault → Type 0
+IsFaultOfAsking v (faults.Grants refused) = ⊥
+IsFaultOfAsking v (faults.BadValue option) = IsBadAmong v asking_options (faults.BadValue option)
+IsFaultOfAsking v faults.NoMemory = All (IsGood v) asking_options
 
 -- what the grants say to the question
 abbrev pub verdict_on : Question → Verdict

@@ -1,11 +1,16 @@
 -- The answer to a question with all that is worth a word beside it.
-use Rattle.std.specs.Prelude.{List, ℕ}
+use Rattle.std.specs.Prelude.{List, None, ℕ}
 use Rattle.capgrant.specs.Question.{Question as Asked}
 use Rattle.capgrant.specs.Question.{question}
 use Rattle.policy_analysis.specs.Left.{left_to_client}
 use Rattle.policy_analysis.specs.Differences.{answered_otherwise}
 use Rattle.texts.specs.Remarks.{remarked_text}
+use Rattle.release_rules.specs.declared.beside.Others.{Others}
+use Rattle.release_rules.specs.Asked.{asked_for}
+use Rattle.release_rules.specs.Beside.{others_of}
+use Rattle.release_rules.specs.Question.{Question as MdsQuestion}
 use Rattle.texts.specs.Answers.{answer_object}
+use Rattle.texts.specs.Mds.{beside_text}
 use Rattle.queries.specs.declared.question.Question.{Question}
 use Rattle.queries.specs.Question.{verdict_on}
 
@@ -17,6 +22,20 @@ asked_of q = question q.fs q.caller q.path q.attr q.access
 abbrev pub full_text : Question → List ℕ
 full_text q = remarked_text (asked_of q) (verdict_on q) (left_to_client (asked_of q) q.grants) (answered_otherwise (asked_of q) q.grants)
 
+-- ---- beside what releases answer
+
+-- what is asked of an MDS
+abbrev pub mds_asked : Question → MdsQuestion
+mds_asked q = record { fs = q.fs; caller = q.caller; path = q.path; attr = q.attr; asked = asked_for q.access; address = None }
+
+-- what each release answers otherwise, by the text that the grants were read in
+abbrev pub others_on : List ℕ → Question → Others
+others_on text q = others_of (mds_asked q) q.access (verdict_on q) text
+
+-- the line that answers the question, and those for what is left to the client and for where releases answer otherwise
+abbrev pub remarked_answer : List ℕ → Question → List ℕ
+remarked_answer text q = beside_text (asked_of q) (verdict_on q) (left_to_client (asked_of q) q.grants) (others_on text q)
+
 -- the object that says all of it
-abbrev pub full_object : Question → List ℕ
-full_object q = answer_object (asked_of q) (verdict_on q) (left_to_client (asked_of q) q.grants) (answered_otherwise (asked_of q) q.grants)
+abbrev pub remarked_object : List ℕ → Question → List ℕ
+remarked_object text q = answer_object (asked_of q) (verdict_on q) (left_to_client (asked_of q) q.grants) (others_on text q)

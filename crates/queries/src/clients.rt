@@ -2,7 +2,7 @@
 ghost use Rattle.std.specs.Prelude.{◌≡◌, ◌++◌, ℕ, List, IfOk, IfErr, OnOk};
 ghost use Rattle.ceph_input.specs.Auth.{IsFaultOf, auth_of};
 ghost use Rattle.queries.specs.Attempts.{wanted_by};
-ghost use Rattle.queries.specs.Clients.{AnswersWho, AreLines, Says, standing_in, unread_in};
+ghost use Rattle.queries.specs.Clients.{AnswersWho, AreLines, Says, is_told, meant, standing_in, unread_in};
 
 use crate::attempt::Attempt;
 use crate::grant_text::read_text;
@@ -35,16 +35,34 @@ struct ClientAnswer<'a> {
     otherwise: &'a Option<Otherwise>,
 }
 
-/// For each client of an auth list, in its order: whether somebody behind its key may do what is asked, by which grant, or why nobody may;
-/// or that it depends on owner, group and mode, where these are not given. Where a client's grants can't be read, its line says why. The
-/// fault is that of the list. `auth` is what `ceph auth ls -f json` prints.
+/// What is told of the clients of a cluster.
+pub struct WhoAnswer {
+    /// Their lines.
+    pub lines: Vec<u8>,
+    /// Whether the grants of all of them could be read, and so be judged.
+    pub judges_all: bool,
+}
+
+// Not derived: so the proof of a function that drops one has a single call there.
+impl Drop for WhoAnswer {
+    fn drop(self) {
+        let WhoAnswer {
+            lines: _,
+            judges_all: _,
+        } = self;
+    }
+}
+
+/// For each client of an auth list, and each other entity with grants for the MDS, in its order: whether somebody behind its key may do what is
+/// asked, by which grant, or why nobody may; or that it depends on owner, group and mode, where these are not given. Where a client's grants can't
+/// be read, its line says why. The fault is that of the list. `auth` is what `ceph auth ls -f json` prints.
 pub fn who_lines(
     alloc: Global,
     auth: &[u8],
     attempt: &Attempt,
     telling: Telling,
-) -> Result<Vec<u8>, AuthFault>
-    ensures ok { IfOk result (λ lines. AnswersWho telling (wanted_by attempt.now) attempt.now.attr auth.now lines.items) }
+) -> Result<WhoAnswer, AuthFault>
+    ensures ok { IfOk result (AnswersWho telling (wanted_by attempt.now) attempt.now.attr auth.now) }
     ensures err { IfErr result (λ fault. IsFaultOf fault (auth_of auth.now)) }
 {
     let list = read_auth(alloc, auth)?;
@@ -58,35 +76,55 @@ pub fn who_lines(
     Ok(client_lines(alloc, clients, &wanted, &attempt.attr, telling)?)
 }
 
-// The lines of those who are clients.
+// The lines of those of whom is told.
 fn client_lines(
     alloc: Global,
     entities: &[Entity],
     wanted: &Wanted<'_>,
     attr: &Option<Attr>,
     telling: Telling,
-) -> Result<Vec<u8>, AllocError>
-    ensures { IfOk result (λ lines. AreLines telling wanted.now attr.now entities.now lines.items) }
+) -> Result<WhoAnswer, AllocError>
+    ensures { IfOk result (λ answer. AreLines telling wanted.now attr.now entities.now answer.judges_all answer.lines.items) }
 {
     let mut lines = Vec::new(alloc);
+    let mut judges_all = true;
     for entity in entities {
-        if entity.is_client() {
-            print_client(&mut lines, entity, wanted, attr, telling)?;
+        if is_told(entity) {
+            let is_judged = print_client(&mut lines, entity, wanted, attr, telling)?;
+            judges_all = judges_all && is_judged;
         }
     }
-    Ok(lines)
+    Ok(WhoAnswer { lines, judges_all })
 }
 
-// Appends the line of a client.
+// Whether it is a client, or has grants for the MDS.
+fn is_told(entity: &Entity) -> bool
+    ensures { result ≡ is_told entity.now }
+{
+    entity.is_client() || entity.caps().is_some()
+}
+
+// The text whose grants are judged.
+fn meant(text: &[u8]) -> &[u8]
+    ensures { result.now ≡ meant text.now }
+{
+    if text == b"allow".as_slice() {
+        b"allow rwps"
+    } else {
+        text
+    }
+}
+
+// Appends the line of a client, and says whether it could be judged.
 fn print_client(
     lines: &mut Vec<u8>,
     client: &Entity,
     wanted: &Wanted<'_>,
     attr: &Option<Attr>,
     telling: Telling,
-) -> Result<(), AllocError>
-    ensures { OnOk result ((line : List ℕ) × (lines.new.items ≡ lines.old.items ++ line)
-        × Says telling wanted.now attr.now client.now.name client.now.caps line) }
+) -> Result<bool, AllocError>
+    ensures { IfOk result (λ is_judged. (line : List ℕ) × (lines.new.items ≡ lines.old.items ++ line)
+        × Says telling wanted.now attr.now client.now.name client.now.caps is_judged line) }
 {
     let name = client.name();
     let Some(text) = client.caps() else {
@@ -95,9 +133,10 @@ fn print_client(
             standing: &standing,
             otherwise: &None,
         };
-        return print_answer(lines, name, wanted, attr, &answer, telling);
+        print_answer(lines, name, wanted, attr, &answer, telling)?;
+        return Ok(true);
     };
-    match read_text(*lines.allocator(), text) {
+    match read_text(*lines.allocator(), meant(text)) {
         Ok(Some(grants)) => {
             let standing = wanted.standing(&grants, attr);
             let other = wanted.answered_otherwise(&grants, attr);
@@ -105,10 +144,14 @@ fn print_client(
                 standing: &standing,
                 otherwise: &other,
             };
-            print_answer(lines, name, wanted, attr, &answer, telling)
+            print_answer(lines, name, wanted, attr, &answer, telling)?;
+            Ok(true)
         }
         Ok(None) => Err(AllocError),
-        Err(fault) => print_fault(lines, name, wanted, attr, &fault, telling),
+        Err(fault) => {
+            print_fault(lines, name, wanted, attr, &fault, telling)?;
+            Ok(false)
+        }
     }
 }
 

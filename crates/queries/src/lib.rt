@@ -1,6 +1,6 @@
-//! Questions about the grants of a CephFS client: whether they let a caller make an access to an inode, how two texts of grants
-//! differ, what is found in one, and what the checks in the log of an MDS of Ceph 16 asked. What grants are is said by "CephFS
-//! client capabilities" in the Ceph documentation.
+//! Questions about the grants of a CephFS client: whether they let a caller make an access to an inode, by the rules of this server or by
+//! those of the MDS of a release, how two texts of grants differ, what is found in one, and what the checks in the log of an MDS of Ceph 16
+//! asked. What grants are is said by "CephFS client capabilities" in the Ceph documentation.
 //!
 //! A question is read from the values of options, each as the bytes that stand on a command line, and is answered in lines.
 //! What reads a command line takes text, so bytes are spelled as text here, and spelled back.
@@ -18,6 +18,7 @@ mod lists;
 mod log_laws;
 mod log_text;
 mod mask;
+mod mds;
 mod modes;
 mod options;
 mod question;
@@ -26,11 +27,12 @@ mod values;
 mod words;
 
 pub use attempt::{Attempt, AttemptValues, AttrValues};
-pub use clients::{Telling, who_lines};
+pub use clients::{Telling, WhoAnswer, who_lines};
 pub use comparing::{CompareFault, compare};
 pub use fault::QuestionFault;
-pub use linting::lint_text;
+pub use linting::{lint_by, lint_text};
 pub use log_text::log_lines;
+pub use mds::{MdsAnswer, MdsFault, NotRead, mds_grants};
 pub use options::Opt;
-pub use question::{Question, Values};
+pub use question::{Asking, Question, Values};
 pub use words::{spell, spelled};

@@ -61,6 +61,22 @@ impl Drop for Values {
     }
 }
 
+/// What is asked of grants, whichever they are.
+// Its `Drop` is derived, since `Question::read` takes it apart.
+#[derive(Drop)]
+pub struct Asking {
+    /// The file system of the inode.
+    pub fs: FsName,
+    /// Who asks.
+    pub caller: Caller,
+    /// The inode's path.
+    pub path: TreePath,
+    /// The inode's owner, group and mode.
+    pub attr: Attr,
+    /// What is asked for.
+    pub access: Access,
+}
+
 /// Whether these grants let a caller make an access to an inode.
 pub struct Question {
     /// The grants of the client.
@@ -121,6 +137,34 @@ impl Values {
     }
 }
 
+impl Asking {
+    ghost use Rattle.std.specs.Prelude.{IfErr, IfOk};
+    ghost use Rattle.queries.specs.Question.{Asks, IsFaultOfAsking};
+
+    /// What the values ask, but for their grants. They are read in the order of `Opt`, and the fault is that of the first bad one.
+    /// `NoMemory` comes last, and only where each value is good.
+    pub fn read(alloc: Global, values: &Values) -> Result<Asking, QuestionFault>
+        ensures ok { IfOk result (Asks values.now) }
+        ensures err { IfErr result (IsFaultOfAsking values.now) }
+    {
+        let fs = FsName::read(values.fs.as_slice()).ok_or(BadValue(Opt::Fs))?;
+        let caller = values.read_caller()?;
+        let path = read_path(alloc, values.path.as_slice())?;
+        let attr = values.read_attr()?;
+        let access = read_access(values.access.as_slice()).ok_or(BadValue(Opt::Access))?;
+        match path {
+            Some(path) => Ok(Asking {
+                fs,
+                caller,
+                path,
+                attr,
+                access,
+            }),
+            None => Err(QuestionFault::NoMemory),
+        }
+    }
+}
+
 impl Question {
     ghost use Rattle.std.specs.Prelude.{◌≡◌, IfOk, IfErr, map};
     ghost use Rattle.capgrant.specs.Verdict.{is_allowed};
@@ -133,13 +177,15 @@ impl Question {
         ensures err { IfErr result (IsFaultIn values.now) }
     {
         let grants = read_given_grants(alloc, values.grants.as_slice())?;
-        let fs = FsName::read(values.fs.as_slice()).ok_or(BadValue(Opt::Fs))?;
-        let caller = values.read_caller()?;
-        let path = read_path(alloc, values.path.as_slice())?;
-        let attr = values.read_attr()?;
-        let access = read_access(values.access.as_slice()).ok_or(BadValue(Opt::Access))?;
-        match (grants, path) {
-            (Some(grants), Some(path)) => Ok(Question {
+        let Asking {
+            fs,
+            caller,
+            path,
+            attr,
+            access,
+        } = Asking::read(alloc, values)?;
+        match grants {
+            Some(grants) => Ok(Question {
                 grants,
                 fs,
                 caller,
@@ -147,7 +193,7 @@ impl Question {
                 attr,
                 access,
             }),
-            _ => Err(QuestionFault::NoMemory),
+            None => Err(QuestionFault::NoMemory),
         }
     }
 

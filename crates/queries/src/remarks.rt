@@ -1,13 +1,16 @@
 //! What is said beside the answer to a question.
 
 use crate::question::Question;
+use capgrant::Verdict;
 use policy_analysis::{answered_otherwise, left_to_client};
+use release_rules::{Asked, Others, answers_beside};
 use std::alloc::{AllocError, Global};
-use texts::{answer_object, remarked_lines};
+use texts::{answer_object, beside_lines, remarked_lines};
 
 impl Question {
     ghost use Rattle.std.specs.Prelude.{◌≡◌, IfOk, map};
-    ghost use Rattle.queries.specs.Remarks.{asked_of, full_object, full_text};
+    ghost use Rattle.release_rules.specs.Beside.{others_of};
+    ghost use Rattle.queries.specs.Remarks.{asked_of, full_text, mds_asked, remarked_answer, remarked_object};
 
     /// The line that answers the question, with the path in double quotes where it has to be, and behind it lines for what the grant
     /// that allows leaves to the client, and for where the MDS of Ceph 16 answers otherwise. Each ends in a line feed. Only memory
@@ -24,18 +27,48 @@ impl Question {
         remarked_lines(alloc, &asked, &verdict, left, &other)
     }
 
-    /// The object that answers the question and says all that `full_answer` says. It is a line of JSON, with its line feed. Only memory
-    /// can be missing.
-    pub fn full_object(&self, alloc: Global) -> Result<Vec<u8>, AllocError>
-        ensures { IfOk result (λ line. line.items ≡ full_object self.now) }
+    /// The line that answers the question, with the path in double quotes where it has to be, and behind it lines for what the grant
+    /// that allows leaves to the client, and for where the MDS of a release answers otherwise by the text that the grants were read in.
+    /// Each ends in a line feed. Only memory can be missing.
+    pub fn remarked_answer(&self, alloc: Global, text: &[u8]) -> Result<Vec<u8>, AllocError>
+        ensures { IfOk result (λ lines. lines.items ≡ remarked_answer text.now self.now) }
     {
         let names = self.path.names(alloc)?;
         let names = names.as_slice();
         let verdict = self.judge(names);
         let asked = self.asked(names);
         let left = left_to_client(&asked, &self.grants);
-        let other = answered_otherwise(&asked, &self.grants);
-        answer_object(alloc, &asked, &verdict, left, &other)
+        let others = self.others(alloc, text, &verdict)?;
+        beside_lines(alloc, &asked, &verdict, left, &others)
+    }
+
+    /// The object that answers the question and says all that `remarked_answer` says. It is a line of JSON, with its line feed. Only
+    /// memory can be missing.
+    pub fn remarked_object(&self, alloc: Global, text: &[u8]) -> Result<Vec<u8>, AllocError>
+        ensures { IfOk result (λ line. line.items ≡ remarked_object text.now self.now) }
+    {
+        let names = self.path.names(alloc)?;
+        let names = names.as_slice();
+        let verdict = self.judge(names);
+        let asked = self.asked(names);
+        let left = left_to_client(&asked, &self.grants);
+        let others = self.others(alloc, text, &verdict)?;
+        answer_object(alloc, &asked, &verdict, left, &others)
+    }
+
+    // What each release answers otherwise than by this verdict.
+    fn others(&self, alloc: Global, text: &[u8], verdict: &Verdict) -> Result<Others, AllocError>
+        ensures { IfOk result (λ others. others ≡ others_of (mds_asked self.now) self.now.access verdict.now text.now) }
+    {
+        let question = release_rules::Question {
+            fs: &self.fs,
+            caller: &self.caller,
+            path: &self.path,
+            attr: &self.attr,
+            asked: Asked::of_access(self.access),
+            address: None,
+        };
+        answers_beside(alloc, text, &question, self.access, verdict)
     }
 
     // What is asked of each grant, by the names of the path.

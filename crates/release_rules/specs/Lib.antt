@@ -11,3 +11,5 @@ pub mod Clients
 pub mod Texts
 pub mod Items
 pub mod Reading
+pub mod Beside
+pub mod Written

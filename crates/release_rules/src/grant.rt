@@ -65,7 +65,7 @@ impl Model for GidList {
 }
 
 impl GidList {
-    ghost use Rattle.std.specs.Prelude.{◌≡◌, ◌++◌, ◌∷◌, [], OnOk};
+    ghost use Rattle.std.specs.Prelude.{◌≡◌, ◌++◌, ◌∷◌, [], IfOk, OnOk};
 
     /// No gid.
     pub fn new(alloc: Global) -> GidList
@@ -74,6 +74,15 @@ impl GidList {
         GidList {
             gids: Vec::new(alloc),
         }
+    }
+
+    /// These gids, in memory of their own.
+    pub(crate) fn of(alloc: Global, gids: &[u32]) -> Result<GidList, AllocError>
+        ensures { IfOk result (λ list. list ≡ gids.now) }
+    {
+        Ok(GidList {
+            gids: Vec::from_slice(alloc, gids)?,
+        })
     }
 
     /// Adds a gid at the end.

@@ -1,6 +1,6 @@
 //! What the grants of a client let it do.
 ghost use Rattle.std.specs.Prelude.{◌≡◌, IfOk, position};
-ghost use Rattle.release_rules.specs.Verdicts.{allows, first_failures, lets_mount, may_allow, may_mount, verdict_of};
+ghost use Rattle.release_rules.specs.Verdicts.{allows, first_failures, is_for_everything, lets_mount, may_allow, may_mount, verdict_of};
 ghost use Rattle.release_rules.specs.Clients.{client_refuses, decided};
 
 use crate::grant::Grant;
@@ -31,12 +31,19 @@ pub fn may_mount(switches: Switches, fs: &FsName, grants: &[Grant]) -> bool
 fn lets_mount(switches: Switches, fs: &FsName, grant: &Grant) -> bool
     ensures { result ≡ lets_mount switches fs.now grant.now }
 {
+    is_for_everything(switches, grant) || !is_for_other_fs(fs, grant)
+}
+
+/// Whether a grant is for everything: `*` or `all`, for all users and the whole tree, whatever its fsname and its network. By such a grant a client
+/// mounts each file system, and commands each MDS.
+pub fn is_for_everything(switches: Switches, grant: &Grant) -> bool
+    ensures { result ≡ is_for_everything switches grant.now }
+{
     let is_whole_tree = match &grant.path {
         Some(path) => without_first_slashes(path.as_bytes()).is_empty(),
         None => true,
     };
-    (grant.flags.all && user_of(switches, grant).is_none() && is_whole_tree)
-        || !is_for_other_fs(fs, grant)
+    grant.flags.all && user_of(switches, grant).is_none() && is_whole_tree
 }
 
 /// What the MDS of a release says to a question: by which grant it allows, or which rule each grant fails by first. Where it hangs on the address of

@@ -1,12 +1,14 @@
 //! What the MDS of three releases of Ceph makes of the grants of a client (MDS auth caps), each as it is: which texts it reads, whether the
-//! client may mount a file system, what it may do there, and what its clients refuse by themselves.
+//! client may mount a file system, what it may do there, what its clients refuse by themselves, and where it answers otherwise than this server.
 //!
 //! Public source: "CephFS Client Capabilities" in the Ceph documentation. The rest was asked of the programs.
 #![tactic(auto)]
 
 mod asked;
+mod beside;
 mod bytes;
 mod flags;
+mod forms;
 mod grant;
 mod items;
 mod judging;
@@ -17,12 +19,17 @@ mod reading;
 mod release;
 mod rule;
 mod verdict;
+mod writing;
 
 pub use asked::Asked;
+pub use beside::{Others, Otherwise, Reason, answers_beside};
 pub use flags::Flags;
+pub use forms::{NoForm, mds_form};
 pub use grant::{GidList, Grant, Grants, Text};
-pub use judging::{client_refuses, may_mount, mds_verdict};
-pub use question::Question;
+pub use judging::{client_refuses, is_for_everything, may_mount, mds_verdict};
+pub use network::writes_network;
+pub use paths::directory_of;
+pub use question::{Question, user_of};
 pub use reading::{Unread, read_grants};
 pub use release::{Release, Switches};
 pub use rule::Rule;

@@ -1,5 +1,5 @@
 //! The network of a grant, and the address of a client.
-ghost use Rattle.std.specs.Prelude.{◌≡◌, ◌^◌, ◌-◌, ◌<◌, min, option_map, length, drop, IsTrue};
+ghost use Rattle.std.specs.Prelude.{◌≡◌, ◌^◌, ◌-◌, ◌<◌, min, option_map, is_some, length, drop, IsTrue};
 ghost use Rattle.std.specs.List.{list_all};
 ghost use Rattle.std.specs.Str.Parse.{digits_value};
 ghost use Rattle.capspec.specs.Words.{is_digit};
@@ -40,6 +40,13 @@ pub(crate) fn in_network(network: &Option<Text>, address: Option<IpAddr>) -> InN
     } else {
         InNetwork::No
     }
+}
+
+/// Whether a text writes a network, as `10.0.0.0/8`: an address, a slash and a number of bits. A grant with another text for its network is for nobody.
+pub fn writes_network(text: &[u8]) -> bool
+    ensures { result ≡ is_some (network_in text.now) }
+{
+    network_in(text).is_some()
 }
 
 // The address and the number of bits that a text writes with a slash between them.

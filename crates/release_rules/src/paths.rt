@@ -8,8 +8,8 @@ use crate::release::Switches;
 use byte_sets::ByteSet;
 use capspec::TreePath;
 
-/// The path of a grant as a release compares it.
-pub(crate) fn directory_of(switches: Switches, path: &[u8]) -> &[u8]
+/// The path of a grant as a release compares it: without the slashes in front, and without those at its end where they mean nothing.
+pub fn directory_of(switches: Switches, path: &[u8]) -> &[u8]
     ensures { result.now ≡ directory_of switches path.now }
 {
     let path = without_first_slashes(path);

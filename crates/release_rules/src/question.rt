@@ -304,9 +304,9 @@ impl Question<'_> {
     }
 }
 
-/// The user that a grant is for, if it is for one.
+/// The user that a grant is for by the rules of a release, if it is for one.
 #[tactic(auto, unfolding(crate::specs::Failing::user_of))]
-pub(crate) fn user_of(switches: Switches, grant: &Grant) -> Option<u32>
+pub fn user_of(switches: Switches, grant: &Grant) -> Option<u32>
     ensures { result ≡ user_of switches grant.now }
 {
     match grant.uid {

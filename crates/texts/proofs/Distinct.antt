@@ -1,6 +1,6 @@
 -- Answers that differ are values that differ.
 use Rattle.std.proofs.Common.{◌≡◌, ℕ, ◌+◌, ◌<◌, ◌^◌, Bool, true, false, List, [], ◌∷◌, ◌++◌, map, Option, None, Some, refl, sym, ap, subst, ◌∙◌, arith}
-use Rattle.std.specs.Prelude.{bytes_eq, codes, if◌then◌else◌}
+use Rattle.std.specs.Prelude.{bytes_eq, codes, if◌then◌else◌, not}
 use Rattle.std.specs.Fmt.{decimal}
 use Rattle.std.specs.List.{enumerate_from}
 use Rattle.serde_json.specs.Data.{Data, Members, array, item, member, no_items, no_members, null, number, object, string, unsigned}
@@ -17,6 +17,10 @@ use Rattle.policy_analysis.specs.declared.differences.Difference.{Difference}
 use Rattle.policy_analysis.specs.declared.differences.Difference.TheVariants.{AttributeByFlag, LargeUid, ModeByBits, OtherFileSystem}
 use Rattle.policy_analysis.specs.declared.differences.Otherwise.{Otherwise}
 use Rattle.policy_analysis.specs.declared.witness.Witness.{Witness}
+use Rattle.release_rules.specs.declared.beside.Otherwise.{Otherwise as Other}
+use Rattle.release_rules.specs.declared.beside.Others.{Others}
+use Rattle.release_rules.specs.declared.beside.Reason.{Reason}
+use Rattle.release_rules.specs.declared.beside.Reason.TheVariants as reasons
 use Rattle.texts.specs.Explaining.{outcome_text, path_text, reason_text}
 use Rattle.texts.specs.Lines.{HasNumber, answer_line}
 use Rattle.texts.specs.PartTexts.{mode_text}
@@ -25,7 +29,8 @@ use Rattle.texts.proofs.Answered as lines
 use Rattle.texts.proofs.Compared.{one_mode}
 use Rattle.texts.proofs.Quoted.{clash}
 use Rattle.texts.specs.Values.{bytes_value, natural, numbers_value, or_null}
-use Rattle.texts.specs.Answers.{AskTheSame, IsAskable, answer_value, difference_value, otherwise_value, rule_value, verdict_word}
+use Rattle.texts.specs.Answers.{AskTheSame, IsAskable, answer_value, difference_value, is_of_access, other_value, otherwise_value, reason_if, reason_word}
+use Rattle.texts.specs.Answers.{rule_value, verdict_word}
 use Rattle.texts.specs.Changes.{asked_by, change_value}
 use Rattle.texts.proofs.Spelling.{one_spelling}
 
@@ -113,7 +118,7 @@ one_row n (r ∷ rs) (q ∷ qs) same =
     let more : rs ≡ qs = one_row (n + 1) rs qs (ap tail_of same) in
     λ i. here i ∷ more i
 
-one_verdict : (q r : Question) (v w : Verdict) (left also : Option ℕ) (other further : Option Otherwise) → answer_value q v left other ≡ answer_value r w also further → v ≡ w
+one_verdict : (q r : Question) (v w : Verdict) (left also : Option ℕ) (other further : Others) → answer_value q v left other ≡ answer_value r w also further → v ≡ w
 one_verdict q r (Allowed g) (Allowed h) left also other further same = ap Allowed (ap (λ (d : Data). number_in (value_at (codes "grant") d)) same)
 one_verdict q r (Allowed g) (Denied qs) left also other further same = clash 97 100 (omega arith) (ap (λ (d : Data). byte_in (value_at (codes "verdict") d)) same)
 one_verdict q r (Denied rs) (Allowed h) left also other further same = clash 97 100 (omega arith) (sym (ap (λ (d : Data). byte_in (value_at (codes "verdict") d)) same))
@@ -121,7 +126,7 @@ one_verdict q r (Denied rs) (Denied qs) left also other further same = ap Denied
 
 -- ---- what is worth a word beside it
 
-one_left : (left also : Option ℕ) → or_null natural left ≡ or_null natural also → left ≡ also
+pub one_left : (left also : Option ℕ) → or_null natural left ≡ or_null natural also → left ≡ also
 one_left None None same = refl
 one_left None (Some n) same = clash 0 1 (omega arith) (ap some_in same)
 one_left (Some m) None same = clash 0 1 (omega arith) (sym (ap some_in same))
@@ -161,6 +166,43 @@ one_otherwise (Some a) (Some b) same =
     let by_access : a.by_access ≡ b.by_access = one_difference a.by_access b.by_access (ap (value_at (codes "by_access")) same) in
     λ i. Some (record { allows = allows i; grant = grant i; by_grant = by_grant i; by_access = by_access i })
 
+-- by releases
+
+abbrev named : List ℕ → Reason
+named word =
+    if bytes_eq word (codes "other-file-system") then reasons.OtherFileSystem
+    else (if bytes_eq word (codes "zero-uid") then reasons.ZeroUid
+    else (if bytes_eq word (codes "large-uid") then reasons.LargeUid
+    else (if bytes_eq word (codes "path-as-text") then reasons.PathAsText
+    else (if bytes_eq word (codes "attribute-by-flag") then reasons.AttributeByFlag
+    else (if bytes_eq word (codes "mode-by-bits") then reasons.ModeByBits
+    else (if bytes_eq word (codes "groups-in-order") then reasons.GroupsInOrder else reasons.OtherText))))))
+
+-- by what stands at the two keys
+abbrev given_for : Data → Data → Reason
+given_for (string word) by_access = named word
+given_for by_grant by_access = named (text_in by_access)
+
+gives : (reason : Reason) → given_for (reason_if (not (is_of_access reason)) reason) (reason_if (is_of_access reason) reason) ≡ reason
+gives reasons.OtherFileSystem = refl
+gives reasons.ZeroUid = refl
+gives reasons.LargeUid = refl
+gives reasons.PathAsText = refl
+gives reasons.AttributeByFlag = refl
+gives reasons.ModeByBits = refl
+gives reasons.GroupsInOrder = refl
+gives reasons.OtherText = refl
+
+one_other : (a b : Option Other) → or_null other_value a ≡ or_null other_value b → a ≡ b
+one_other None None same = refl
+one_other None (Some b) same = clash 0 1 (omega arith) (ap some_in same)
+one_other (Some a) None same = clash 0 1 (omega arith) (sym (ap some_in same))
+one_other (Some a) (Some b) same =
+    let allows : a.allows ≡ b.allows = one_word a.allows b.allows (ap (value_at (codes "verdict")) same) in
+    let grant : a.grant ≡ b.grant = ap (λ (d : Data). number_in (value_at (codes "grant") d)) same in
+    let reason : a.reason ≡ b.reason = sym (gives a.reason) ∙ ap (λ (d : Data). given_for (value_at (codes "by_grant") d) (value_at (codes "by_access") d)) same ∙ gives b.reason in
+    λ i. Some (record { allows = allows i; grant = grant i; reason = reason i })
+
 -- ---- what is asked
 
 -- what stands at the keys of a question
@@ -176,16 +218,18 @@ pub record Asks (d : Data) (q : Question) : Type 0 where
   pub mode : value_at (codes "mode") d ≡ string (mode_text q.attr.mode)
 
 -- and at those of what is worth a word beside its verdict
-record Shows (d : Data) (q : Question) (left : Option ℕ) (other : Option Otherwise) : Type 0 where
+record Shows (d : Data) (q : Question) (left : Option ℕ) (others : Others) : Type 0 where
   asks : Asks d q
   client : value_at (codes "left_to_client") d ≡ or_null natural left
-  ceph : value_at (codes "ceph16") d ≡ or_null otherwise_value other
+  pacific : value_at (codes "ceph16") d ≡ or_null other_value others.pacific
+  reef : value_at (codes "ceph18") d ≡ or_null other_value others.reef
+  tentacle : value_at (codes "ceph20") d ≡ or_null other_value others.tentacle
 
-shows : (q : Question) (v : Verdict) (left : Option ℕ) (other : Option Otherwise) → Shows (answer_value q v left other) q left other
-shows q (Allowed g) left other =
-    record { asks = record { access = refl; path = refl; fs = refl; uid = refl; gid = refl; groups = refl; owner = refl; group = refl; mode = refl }; client = refl; ceph = refl }
-shows q (Denied rs) left other =
-    record { asks = record { access = refl; path = refl; fs = refl; uid = refl; gid = refl; groups = refl; owner = refl; group = refl; mode = refl }; client = refl; ceph = refl }
+shows : (q : Question) (v : Verdict) (left : Option ℕ) (others : Others) → Shows (answer_value q v left others) q left others
+shows q (Allowed g) left others =
+    record { asks = record { access = refl; path = refl; fs = refl; uid = refl; gid = refl; groups = refl; owner = refl; group = refl; mode = refl }; client = refl; pacific = refl; reef = refl; tentacle = refl }
+shows q (Denied rs) left others =
+    record { asks = record { access = refl; path = refl; fs = refl; uid = refl; gid = refl; groups = refl; owner = refl; group = refl; mode = refl }; client = refl; pacific = refl; reef = refl; tentacle = refl }
 
 pub one_question : (q r : Question) (d : Data) → IsAskable q → IsAskable r → Asks d q → Asks d r → AskTheSame q r
 one_question q r d fit fits p s =
@@ -202,15 +246,18 @@ one_question q r d fit fits p s =
     let attr : q.attr ≡ r.attr = λ i. record { uid = owner i; gid = group i; mode = mode i } in
     (access, path, fs, caller, attr)
 
-pub one_answer : (q r : Question) (v w : Verdict) (left also : Option ℕ) (other further : Option Otherwise) → IsAskable q → IsAskable r → answer_value q v left other ≡ answer_value r w also further
-    → AskTheSame q r × (v ≡ w) × (left ≡ also) × (other ≡ further)
-one_answer q r v w left also other further fit fits same =
-    let p = shows q v left other in
-    let s : Shows (answer_value q v left other) r also further = subst (λ (d : Data). Shows d r also further) (sym same) (shows r w also further) in (
-      one_question q r (answer_value q v left other) fit fits p.asks s.asks,
-      one_verdict q r v w left also other further same,
+pub one_answer : (q r : Question) (v w : Verdict) (left also : Option ℕ) (others further : Others) → IsAskable q → IsAskable r → answer_value q v left others ≡ answer_value r w also further
+    → AskTheSame q r × (v ≡ w) × (left ≡ also) × (others ≡ further)
+one_answer q r v w left also others further fit fits same =
+    let p = shows q v left others in
+    let s : Shows (answer_value q v left others) r also further = subst (λ (d : Data). Shows d r also further) (sym same) (shows r w also further) in
+    let pacific : others.pacific ≡ further.pacific = one_other others.pacific further.pacific (sym p.pacific ∙ s.pacific) in
+    let reef : others.reef ≡ further.reef = one_other others.reef further.reef (sym p.reef ∙ s.reef) in
+    let tentacle : others.tentacle ≡ further.tentacle = one_other others.tentacle further.tentacle (sym p.tentacle ∙ s.tentacle) in (
+      one_question q r (answer_value q v left others) fit fits p.asks s.asks,
+      one_verdict q r v w left also others further same,
       one_left left also (sym p.client ∙ s.client),
-      one_otherwise other further (sym p.ceph ∙ s.ceph),
+      (λ i. record { pacific = pacific i; reef = reef i; tentacle = tentacle i }),
     )
 
 -- ---- what is gained or lost

@@ -4,34 +4,47 @@ use Rattle.std.specs.Prelude.{codes, not, All, IfSome, ◌==◌, if◌then◌els
 use Rattle.std.specs.List.{AllZip, flat_map}
 use Rattle.std.proofs.lemmas.List.Elements.{All-append, All-cons, All-head, All-nil, All-tail}
 use Rattle.std.proofs.lemmas.List.{map-append}
-use Rattle.serde_json.specs.Data.{Data, string}
 use Rattle.capspec.specs.declared.items.Key.{Key}
 use Rattle.capspec.specs.declared.items.Key.TheVariants.{FsName, Gids, Path, RootSquash, Uid}
+use Rattle.serde_json.specs.Data.{Data, array, item, string}
 use Rattle.policy_analysis.specs.declared.unread.Unread.{Unread}
 use Rattle.policy_analysis.specs.declared.unread.Unread.TheVariants.{AnyFileSystem, Order, WhiteSpace}
 use Rattle.capspec.specs.Items.{key_name as name}
 use Rattle.policy_analysis.specs.declared.finding.Finding.{Finding}
+use Rattle.policy_analysis.specs.declared.oddity.Oddity.{Oddity}
+use Rattle.policy_analysis.specs.declared.oddity.Oddity.TheVariants.{CommandsMds, GidsAlone, LargeUid, NoNetwork, TwoSlashes, ZeroUid}
 use Rattle.policy_analysis.specs.declared.witness.Witness.{Witness}
+use Rattle.release_rules.specs.declared.release.Release.TheVariants.{Pacific, Reef, Tentacle}
+use Rattle.policy_analysis.specs.declared.releases.Releases.{Releases}
+use Rattle.policy_analysis.specs.declared.releases.Releases.TheVariants.{One, Today}
 use Rattle.texts.specs.Found.{Found, SameFound, SameOfGrant, all_found, found_by, found_if}
-use Rattle.texts.specs.Found.Found.{covered, nothing, stands, undone, unread}
+use Rattle.texts.specs.Found.Found.{covered, nothing, odd, refused, stands, undone, unread}
 use Rattle.texts.specs.Lines.{TellTheSame}
 use Rattle.texts.proofs.Linted.{if_some, in_order, key_at, kind, tag}
 use Rattle.texts.proofs.Quoted.{first_byte}
 use Rattle.texts.specs.Answers.{IsAskable}
 use Rattle.texts.specs.Changes.{asked_by}
-use Rattle.texts.specs.Findings.{HasObject, IsAskableIf, IsRead, finding_if, finding_objects, found_object, found_value, stands_object, undone_line}
-use Rattle.texts.specs.Findings.{undone_value}
+use Rattle.texts.specs.Findings.{HasObject, IsAskableIf, IsRead, finding_if, finding_objects, found_object, found_value, odd_value, oddity_word, refused_value}
+use Rattle.texts.specs.Findings.{stands_object, undone_line, undone_value}
+use Rattle.policy_analysis.specs.Releases.{releases_numbers}
+use Rattle.texts.specs.Values.{numbers_value}
 use Rattle.texts.proofs.Distinct.{Asks, number_in, one_question, text_in, value_at}
 use Rattle.texts.proofs.Streams.{one_line, some_line}
 
 -- ---- what an object has
 
+abbrev kind_of : Found → ℕ
+kind_of (refused releases w) = 6
+kind_of found = tag found
+
 -- the words of findings differ in these
 abbrev tag_in : Data → ℕ
 tag_in (string text) =
     let byte : ℕ = first_byte text in
-    if byte == 99 then 0 else (if byte == 97 then 1 else (if byte == 114 then 2 else (if first_byte (drop 7 text) == 98 then 3 else 4)))
-tag_in d = 5
+    if byte == 99 then 0
+    else (if byte == 97 then 1
+    else (if byte == 114 then (if first_byte (drop 1 text) == 111 then 2 else 6) else (if byte == 117 then (if first_byte (drop 7 text) == 98 then 3 else 4) else 5)))
+tag_in d = 7
 
 -- and those of reasons in this
 abbrev kind_in : Data → ℕ
@@ -40,7 +53,7 @@ kind_in d = 3
 
 -- what stands at two keys of a finding
 record Tells (d : Data) (x : ℕ × Found) : Type 0 where
-  found : tag_in (value_at (codes "finding") d) ≡ tag x.1
+  found : tag_in (value_at (codes "finding") d) ≡ kind_of x.1
   grant : number_in (value_at (codes "grant") d) ≡ x.0
 
 tells : (grant : ℕ) (found : Found) → Tells (found_value grant found) (grant, found)
@@ -51,6 +64,13 @@ tells grant unread = record { found = refl; grant = refl }
 tells grant (stands WhiteSpace) = record { found = refl; grant = refl }
 tells grant (stands AnyFileSystem) = record { found = refl; grant = refl }
 tells grant (stands (Order first second)) = record { found = refl; grant = refl }
+tells grant (odd releases ZeroUid) = record { found = refl; grant = refl }
+tells grant (odd releases GidsAlone) = record { found = refl; grant = refl }
+tells grant (odd releases CommandsMds) = record { found = refl; grant = refl }
+tells grant (odd releases NoNetwork) = record { found = refl; grant = refl }
+tells grant (odd releases TwoSlashes) = record { found = refl; grant = refl }
+tells grant (odd releases LargeUid) = record { found = refl; grant = refl }
+tells grant (refused releases w) = record { found = refl; grant = refl }
 
 -- ---- its question
 
@@ -100,6 +120,61 @@ one_reason m n (Order a b) (Order c d) same =
 one_reason m n why other same =
     absurd (let e : kind why ≡ kind other = sym (has_kind m why) ∙ ap (λ (d : Data). kind_in (value_at (codes "reason") d)) same ∙ has_kind n other in omega (arith, e))
 
+-- ---- its releases, and what is odd
+
+abbrev is_two : Data → Bool
+is_two (array (item d (item e ds))) = true
+is_two d = false
+
+abbrev first_in : Data → ℕ
+first_in (array (item d ds)) = number_in d
+first_in d = 0
+
+abbrev releases_in : Data → Releases
+releases_in d = if is_two d then Today else (if first_in d == 16 then One Pacific else (if first_in d == 18 then One Reef else One Tentacle))
+
+has_releases : (releases : Releases) → releases_in (numbers_value (releases_numbers releases)) ≡ releases
+has_releases (One Pacific) = refl
+has_releases (One Reef) = refl
+has_releases (One Tentacle) = refl
+has_releases Today = refl
+
+one_releases : (a b : Releases) (p q : Data) → p ≡ q → p ≡ numbers_value (releases_numbers a) → q ≡ numbers_value (releases_numbers b) → a ≡ b
+one_releases a b p q same is other = sym (has_releases a) ∙ ap releases_in (sym is ∙ same ∙ other) ∙ has_releases b
+
+abbrev oddity_in : Data → Oddity
+oddity_in d =
+    let byte : ℕ = first_byte (text_in d) in
+    if byte == 122 then ZeroUid else (if byte == 103 then GidsAlone else (if byte == 109 then CommandsMds else (if byte == 110 then NoNetwork else (if byte == 116 then TwoSlashes else LargeUid))))
+
+has_oddity : (oddity : Oddity) → oddity_in (string (oddity_word oddity)) ≡ oddity
+has_oddity ZeroUid = refl
+has_oddity GidsAlone = refl
+has_oddity CommandsMds = refl
+has_oddity NoNetwork = refl
+has_oddity TwoSlashes = refl
+has_oddity LargeUid = refl
+
+one_odd : (m n : ℕ) (a b : Releases) (o p : Oddity) → odd_value m a o ≡ odd_value n b p → (a ≡ b) × (o ≡ p)
+one_odd m n a b o p same =
+    (one_releases a b _ _ (ap (value_at (codes "releases")) same) refl refl, sym (has_oddity o) ∙ ap (λ (d : Data). oddity_in (value_at (codes "finding") d)) same ∙ has_oddity p)
+
+-- and what stands at the keys of a question that clients refuse
+record Refuses (d : Data) (w : Witness) : Type 0 where
+  asks : Asks d (asked_by w)
+  refused_by : number_in (value_at (codes "refused_by") d) ≡ w.grant
+
+refuses : (grant : ℕ) (releases : Releases) (w : Witness) → Refuses (refused_value grant releases w) w
+refuses grant releases w =
+    record { asks = record { access = refl; path = refl; fs = refl; uid = refl; gid = refl; groups = refl; owner = refl; group = refl; mode = refl }; refused_by = refl }
+
+one_refusal : (m n : ℕ) (a b : Releases) (v w : Witness) → IsAskable (asked_by v) → IsAskable (asked_by w) → refused_value m a v ≡ refused_value n b w → (a ≡ b) × TellTheSame v w
+one_refusal m n a b v w fit fits same =
+    let p = refuses m a v in
+    let s : Refuses (refused_value m a v) w = subst (λ (d : Data). Refuses d w) (sym same) (refuses n b w) in
+    let asked = one_question (asked_by v) (asked_by w) (refused_value m a v) fit fits p.asks s.asks in
+    (one_releases a b _ _ (ap (value_at (codes "releases")) same) refl refl, (asked.0, asked.1, asked.2, asked.3, asked.4, sym p.refused_by ∙ s.refused_by))
+
 -- ---- one finding for an object
 
 one_found : (m n : ℕ) (x y : Found) → IsAskableIf x → IsAskableIf y → found_value m x ≡ found_value n y → SameFound x y
@@ -108,8 +183,10 @@ one_found m n nothing nothing fit fits same = tt
 one_found m n (undone v) (undone w) fit fits same = one_undoing m n v w fit fits same
 one_found m n unread unread fit fits same = tt
 one_found m n (stands why) (stands other) fit fits same = one_reason m n why other same
+one_found m n (odd a o) (odd b p) fit fits same = one_odd m n a b o p same
+one_found m n (refused a v) (refused b w) fit fits same = one_refusal m n a b v w fit fits same
 one_found m n x y fit fits same =
-    absurd (let e : tag x ≡ tag y = sym (tells m x).found ∙ ap (λ (d : Data). tag_in (value_at (codes "finding") d)) same ∙ (tells n y).found in omega (arith, e))
+    absurd (let e : kind_of x ≡ kind_of y = sym (tells m x).found ∙ ap (λ (d : Data). tag_in (value_at (codes "finding") d)) same ∙ (tells n y).found in omega (arith, e))
 
 pub one_finding : (x y : ℕ × Found) → IsAskableIf x.1 → IsAskableIf y.1 → found_value x.0 x.1 ≡ found_value y.0 y.1 → SameOfGrant x y
 one_finding x y fit fits same =

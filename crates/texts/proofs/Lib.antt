@@ -18,3 +18,6 @@ pub mod JsonLinted
 pub mod Cuts
 pub mod KnownBytes
 pub mod Flags
+pub mod MdsDistinct
+pub mod MdsAnswered
+pub mod Beside

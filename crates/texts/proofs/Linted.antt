@@ -7,31 +7,27 @@ use Rattle.std.proofs.lemmas.List.{append-nil, append_cancel_left, map-append}
 use Rattle.std.proofs.lemmas.List.Concat.{flat_map-append}
 use Rattle.std.proofs.lemmas.List.Elements.{All-head, All-tail}
 use Rattle.policy_analysis.specs.declared.finding.Finding.{Finding}
+use Rattle.policy_analysis.specs.declared.oddity.Oddity.{Oddity}
+use Rattle.policy_analysis.specs.declared.oddity.Oddity.TheVariants.{CommandsMds, GidsAlone, LargeUid, NoNetwork, TwoSlashes, ZeroUid}
 use Rattle.policy_analysis.specs.declared.witness.Witness.{Witness}
 use Rattle.capspec.specs.declared.items.Key.{Key}
 use Rattle.capspec.specs.declared.items.Key.TheVariants.{FsName, Gids, Path, RootSquash, Uid}
+use Rattle.release_rules.specs.declared.release.Release.TheVariants.{Pacific, Reef, Tentacle}
 use Rattle.policy_analysis.specs.declared.unread.Unread.{Unread}
 use Rattle.policy_analysis.specs.declared.unread.Unread.TheVariants.{AnyFileSystem, Order, WhiteSpace}
 use Rattle.capspec.specs.Items.{key_name as name}
 use Rattle.texts.specs.Comparing.{found_line, witness_text}
-use Rattle.texts.specs.Found.{Found, HasLine, IsReportedIf, SameFound, SameOfGrant, all_found, found_by, found_if}
-use Rattle.texts.specs.Found.Found.{covered, nothing, stands, undone, unread}
-use Rattle.texts.specs.Linting.{covered_text, finding_lines, nothing_text, reported_if, stands_line, unread_text}
+use Rattle.policy_analysis.specs.declared.releases.Releases.{Releases}
+use Rattle.policy_analysis.specs.declared.releases.Releases.TheVariants.{One, Today}
+use Rattle.texts.specs.Found.{Found, HasLine, IsReportedIf, SameFound, SameOfGrant, all_found, found_by, found_if, line_of, thing_line}
+use Rattle.texts.specs.Found.Found.{covered, nothing, odd, refused, stands, undone, unread}
+use Rattle.texts.specs.Linting.{covered_text, finding_lines, nothing_text, oddity_text, reported_if, stands_line, unread_text}
+use Rattle.policy_analysis.specs.Releases.{releases_text}
 use Rattle.texts.proofs.Answered.{number_and}
 use Rattle.texts.proofs.Compared.{one_witness}
 use Rattle.texts.proofs.Quoted.{clash, first_byte}
 
 -- ---- a line for each thing
-
-abbrev pub line_of : ℕ → Found → List ℕ
-line_of grant covered = reported_if true grant covered_text
-line_of grant nothing = reported_if true grant nothing_text
-line_of grant (undone w) = reported_if true grant (codes ": ") ++ found_line (codes "root_squash undone, ") (Some w)
-line_of grant unread = reported_if true grant unread_text
-line_of grant (stands why) = stands_line grant (Some why)
-
-abbrev pub thing_line : ℕ × Found → List ℕ
-thing_line x = line_of x.0 x.1
 
 module _ (line : ℕ × Found → List ℕ) (grant : ℕ) where
   abbrev lines_of : List Found → List ℕ
@@ -94,6 +90,8 @@ said nothing = codes "allows nothing, as no inode has . or .. in its path\n"
 said (undone w) = codes "root_squash undone, " ++ (witness_text w ++ codes "\n")
 said unread = codes "not read by Ceph 16, which takes no uid beside fsname or root_squash\n"
 said (stands why) = codes "not read by Ceph 16 as it stands, which takes " ++ reason why
+said (odd releases oddity) = releases_text releases ++ oddity_text oddity
+said (refused releases w) = releases_text releases ++ found_line (codes ": refused by clients, ") (Some w)
 
 abbrev behind_number : ℕ → List ℕ → List ℕ
 behind_number grant more = codes "grant " ++ (decimal grant ++ 58 ∷ 32 ∷ more)
@@ -113,6 +111,8 @@ laid_out grant (stands WhiteSpace) s = one_text grant (codes ": not read by Ceph
 laid_out grant (stands AnyFileSystem) s = one_text grant (codes ": not read by Ceph 16 as it stands, which takes no * for fsname\n") s
 laid_out grant (stands (Order first second)) s =
     two_texts grant (codes ": not read by Ceph 16 as it stands, which takes ") (name first ++ (codes " before " ++ (name second ++ codes "\n"))) s
+laid_out grant (odd releases oddity) s = one_text grant (codes ": " ++ (releases_text releases ++ oddity_text oddity)) s
+laid_out grant (refused releases w) s = one_text grant (codes ": " ++ (releases_text releases ++ found_line (codes ": refused by clients, ") (Some w))) s
 
 pub begins : (x : ℕ × Found) (s : List ℕ) → first_byte (thing_line x ++ s) ≡ 103
 begins x s = ap first_byte (laid_out x.0 x.1 s)
@@ -168,19 +168,92 @@ one_reason (Order a b) (Order c d) s t same =
     (λ i. Order (first i) (second i), append_cancel_left (codes "\n") s t behind.1)
 one_reason why other s t same = absurd (let e : kind why ≡ kind other = sym (has_kind why s) ∙ ap kind_at same ∙ has_kind other t in omega (arith, e))
 
+-- ---- by the rules of releases
+
+-- behind `Ceph ` the last digit tells, or what follows it
+abbrev releases_at : List ℕ → Releases
+releases_at text =
+    let digit : ℕ = first_byte (drop 6 text) in
+    if digit == 54 then One Pacific else (if digit == 48 then One Tentacle else (if first_byte (drop 7 text) == 58 then One Reef else Today))
+
+has_releases : (releases : Releases) (s : List ℕ) → releases_at (releases_text releases ++ 58 ∷ s) ≡ releases
+has_releases (One Pacific) s = refl
+has_releases (One Reef) s = refl
+has_releases (One Tentacle) s = refl
+has_releases Today s = refl
+
+one_releases : (a b : Releases) (s t : List ℕ) → releases_text a ++ 58 ∷ s ≡ releases_text b ++ 58 ∷ t → (a ≡ b) × (s ≡ t)
+one_releases a b s t same =
+    let releases : a ≡ b = sym (has_releases a s) ∙ ap releases_at same ∙ has_releases b t in
+    (releases, append_cancel_left (releases_text a ++ 58 ∷ []) s t (append_assoc (releases_text a) (58 ∷ []) s ∙ same ∙ ap (λ (r : Releases). releases_text r ++ 58 ∷ t) (sym releases) ∙ sym (append_assoc (releases_text a) (58 ∷ []) t)))
+
+-- what is said behind the releases, without the mark and the space between
+abbrev odd_text : Oddity → List ℕ
+odd_text oddity = drop 2 (oddity_text oddity)
+
+odd_laid_out : (releases : Releases) (oddity : Oddity) (s : List ℕ) → (releases_text releases ++ oddity_text oddity) ++ s ≡ releases_text releases ++ 58 ∷ 32 ∷ (odd_text oddity ++ s)
+odd_laid_out releases ZeroUid s = append_assoc (releases_text releases) (oddity_text ZeroUid) s
+odd_laid_out releases GidsAlone s = append_assoc (releases_text releases) (oddity_text GidsAlone) s
+odd_laid_out releases CommandsMds s = append_assoc (releases_text releases) (oddity_text CommandsMds) s
+odd_laid_out releases NoNetwork s = append_assoc (releases_text releases) (oddity_text NoNetwork) s
+odd_laid_out releases TwoSlashes s = append_assoc (releases_text releases) (oddity_text TwoSlashes) s
+odd_laid_out releases LargeUid s = append_assoc (releases_text releases) (oddity_text LargeUid) s
+
+refused_laid_out : (releases : Releases) (w : Witness) (s : List ℕ)
+    → (releases_text releases ++ found_line (codes ": refused by clients, ") (Some w)) ++ s ≡ releases_text releases ++ 58 ∷ 32 ∷ (codes "refused by clients, " ++ ((witness_text w ++ codes "\n") ++ s))
+refused_laid_out releases w s =
+    append_assoc (releases_text releases) (found_line (codes ": refused by clients, ") (Some w)) s
+    ∙ ap (λ (r : List ℕ). releases_text releases ++ r) (append_assoc (codes ": refused by clients, ") (witness_text w ++ codes "\n") s)
+
+abbrev oddity_at : List ℕ → Oddity
+oddity_at text =
+    let byte : ℕ = first_byte text in
+    if byte == 117 then ZeroUid else (if byte == 103 then GidsAlone else (if byte == 99 then CommandsMds else (if byte == 110 then NoNetwork else (if byte == 116 then TwoSlashes else LargeUid))))
+
+has_oddity : (oddity : Oddity) (s : List ℕ) → oddity_at (odd_text oddity ++ s) ≡ oddity
+has_oddity ZeroUid s = refl
+has_oddity GidsAlone s = refl
+has_oddity CommandsMds s = refl
+has_oddity NoNetwork s = refl
+has_oddity TwoSlashes s = refl
+has_oddity LargeUid s = refl
+
+one_oddity : (a b : Oddity) (s t : List ℕ) → odd_text a ++ s ≡ odd_text b ++ t → (a ≡ b) × (s ≡ t)
+one_oddity a b s t same =
+    let oddity : a ≡ b = sym (has_oddity a s) ∙ ap oddity_at same ∙ has_oddity b t in
+    (oddity, append_cancel_left (odd_text a) s t (same ∙ ap (λ (o : Oddity). odd_text o ++ t) (sym oddity)))
+
+-- none begins as what clients refuse does
+no_refusal : (oddity : Oddity) (s t : List ℕ) → odd_text oddity ++ s ≡ codes "refused by clients, " ++ t → ⊥
+no_refusal ZeroUid s t same = clash 114 117 (omega arith) (sym (ap first_byte same))
+no_refusal GidsAlone s t same = clash 103 114 (omega arith) (ap first_byte same)
+no_refusal CommandsMds s t same = clash 99 114 (omega arith) (ap first_byte same)
+no_refusal NoNetwork s t same = clash 110 114 (omega arith) (ap first_byte same)
+no_refusal TwoSlashes s t same = clash 114 116 (omega arith) (sym (ap first_byte same))
+no_refusal LargeUid s t same = clash 108 114 (omega arith) (ap first_byte same)
+
+-- behind the same releases
+behind_releases : (a b : Releases) (x y s t more less : List ℕ) → x ++ s ≡ releases_text a ++ 58 ∷ 32 ∷ more → y ++ t ≡ releases_text b ++ 58 ∷ 32 ∷ less → x ++ s ≡ y ++ t → (a ≡ b) × (more ≡ less)
+behind_releases a b x y s t more less front also same =
+    let both = one_releases a b (32 ∷ more) (32 ∷ less) (sym front ∙ same ∙ also) in
+    (both.0, append_cancel_left (32 ∷ []) more less both.1)
+
 -- ---- one thing for a line
 
+-- what is told by the rules of releases has one tag in lines
 abbrev pub tag : Found → ℕ
 tag covered = 0
 tag nothing = 1
 tag (undone w) = 2
 tag unread = 3
 tag (stands why) = 4
+tag (odd releases oddity) = 5
+tag (refused releases w) = 5
 
 abbrev tag_at : List ℕ → ℕ
 tag_at text =
     let byte : ℕ = first_byte text in
-    if byte == 99 then 0 else (if byte == 97 then 1 else (if byte == 114 then 2 else (if first_byte (drop 19 text) == 44 then 3 else 4)))
+    if byte == 99 then 0 else (if byte == 97 then 1 else (if byte == 114 then 2 else (if byte == 67 then 5 else (if first_byte (drop 19 text) == 44 then 3 else 4))))
 
 has_tag : (found : Found) (s : List ℕ) → tag_at (said found ++ s) ≡ tag found
 has_tag covered s = refl
@@ -188,6 +261,14 @@ has_tag nothing s = refl
 has_tag (undone w) s = refl
 has_tag unread s = refl
 has_tag (stands why) s = refl
+has_tag (odd (One Pacific) oddity) s = refl
+has_tag (odd (One Reef) oddity) s = refl
+has_tag (odd (One Tentacle) oddity) s = refl
+has_tag (odd Today oddity) s = refl
+has_tag (refused (One Pacific) w) s = refl
+has_tag (refused (One Reef) w) s = refl
+has_tag (refused (One Tentacle) w) s = refl
+has_tag (refused Today w) s = refl
 
 one_said : (x y : Found) (s t : List ℕ) → IsReportedIf x → IsReportedIf y → said x ++ s ≡ said y ++ t → SameFound x y × (s ≡ t)
 one_said covered covered s t reported too same = (tt, append_cancel_left (said covered) s t same)
@@ -197,6 +278,22 @@ one_said (undone v) (undone w) s t reported too same =
 one_said unread unread s t reported too same = (tt, append_cancel_left (said unread) s t same)
 one_said (stands why) (stands other) s t reported too same =
     one_reason why other s t (append_cancel_left (codes "not read by Ceph 16 as it stands, which takes ") (reason why ++ s) (reason other ++ t) same)
+one_said (odd a o) (odd b p) s t reported too same =
+    let both = behind_releases a b (said (odd a o)) (said (odd b p)) s t (odd_text o ++ s) (odd_text p ++ t) (odd_laid_out a o s) (odd_laid_out b p t) same in
+    let more = one_oddity o p s t both.1 in
+    ((both.0, more.0), more.1)
+one_said (refused a v) (refused b w) s t reported too same =
+    let of_one : List ℕ = (witness_text v ++ codes "\n") ++ s in
+    let of_other : List ℕ = (witness_text w ++ codes "\n") ++ t in
+    let both = behind_releases a b (said (refused a v)) (said (refused b w)) s t (codes "refused by clients, " ++ of_one) (codes "refused by clients, " ++ of_other) (refused_laid_out a v s) (refused_laid_out b w t) same in
+    let more = one_witness v w s t reported too (append_cancel_left (codes "refused by clients, ") of_one of_other both.1) in
+    ((both.0, more.0), more.1)
+one_said (odd a o) (refused b w) s t reported too same =
+    let of_other : List ℕ = (witness_text w ++ codes "\n") ++ t in
+    absurd (no_refusal o s of_other (behind_releases a b (said (odd a o)) (said (refused b w)) s t (odd_text o ++ s) (codes "refused by clients, " ++ of_other) (odd_laid_out a o s) (refused_laid_out b w t) same).1)
+one_said (refused a v) (odd b p) s t reported too same =
+    let of_one : List ℕ = (witness_text v ++ codes "\n") ++ s in
+    absurd (no_refusal p t of_one (sym (behind_releases a b (said (refused a v)) (said (odd b p)) s t (codes "refused by clients, " ++ of_one) (odd_text p ++ t) (refused_laid_out a v s) (odd_laid_out b p t) same).1))
 one_said x y s t reported too same = absurd (let e : tag x ≡ tag y = sym (has_tag x s) ∙ ap tag_at same ∙ has_tag y t in omega (arith, e))
 
 pub one_thing : (x y : ℕ × Found) (s t : List ℕ) → HasLine x → HasLine y → thing_line x ++ s ≡ thing_line y ++ t → SameOfGrant x y × (s ≡ t)

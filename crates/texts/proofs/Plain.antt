@@ -1,14 +1,14 @@
 -- Values without a float, which nest at most so deep.
 use Rattle.std.proofs.Common.{◌≡◌, ℕ, suc, ◌≤◌, Bool, true, false, cond, List, [], ◌∷◌, map, Option, None, Some, Ordering, Less, Equal, Greater, nat_cmp, refl}
 use Rattle.std.proofs.Common.{sym, subst, arith}
-use Rattle.std.specs.Prelude.{⊤, codes}
+use Rattle.std.specs.Prelude.{⊤, codes, not}
 use Rattle.std.specs.Cmp.Lexicographic.{slice_cmp}
 use Rattle.std.specs.List.{enumerate_from}
 use Rattle.std.specs.Ordering.{match_ordering}
 use Rattle.std.specs.Str.{is_utf8}
 use Rattle.std.proofs.lemmas.Bool.{or_from, or_parts}
 use Rattle.hex.specs.Hex.{encode_lower}
-use Rattle.serde_json.specs.Data.{Data, Members, depth, items_depth, member, members_depth, no_members, object, put, string}
+use Rattle.serde_json.specs.Data.{Data, Members, depth, items_depth, member, members_depth, no_members, null, object, put, string}
 use Rattle.serde_json.specs.View.{items_of}
 use Rattle.serde_json.specs.Written.{has_float, items_have_float, members_have_float}
 use Rattle.capbits.specs.declared.caller.Caller.{Caller}
@@ -30,15 +30,29 @@ use Rattle.policy_analysis.specs.declared.witness.Witness.{Witness}
 use Rattle.policy_analysis.specs.declared.standing.Standing.{Standing}
 use Rattle.policy_analysis.specs.declared.standing.Standing.TheVariants as standings
 use Rattle.policy_analysis.specs.Callers.{Wanted}
+use Rattle.release_rules.specs.declared.beside.Otherwise.{Otherwise as Other}
+use Rattle.release_rules.specs.declared.beside.Others.{Others}
+use Rattle.release_rules.specs.declared.beside.Reason.{Reason}
+use Rattle.release_rules.specs.declared.release.Release.{Release}
+use Rattle.release_rules.specs.declared.rule.Rule.{Rule as MdsRule}
+use Rattle.release_rules.specs.declared.verdict.Verdict.{Verdict as MdsVerdict}
+use Rattle.release_rules.specs.declared.verdict.Verdict.TheVariants as mds
+use Rattle.release_rules.specs.Releases.{version_of}
+use Rattle.release_rules.specs.Rules.{rule_number as mds_number}
+use Rattle.release_rules.specs.Rules.{rule_word as mds_rule_word}
 use Rattle.texts.specs.declared.table.Piece.{Piece}
-use Rattle.texts.specs.declared.table.Piece.TheVariants.{Access, Bytes, Caps, Null, Number, Numbers, Path, Rules, Word}
+use Rattle.texts.specs.declared.table.Piece.TheVariants.{Access, Bytes, Caps, MdsRules, Null, Number, Numbers, Path, Rules, Word}
 use Rattle.texts.specs.Pieces.{piece_value, pieces_value}
 use Rattle.texts.proofs.Tables.{Row, member_of}
 use Rattle.texts.specs.Values.{IsPlain, Table, bytes_value, natural, numbers_value, object_of, or_null, with_all}
-use Rattle.texts.specs.Answers.{allowing_table, answer_value, attr_table, caller_table, difference_value, otherwise_table, otherwise_value, place_table}
-use Rattle.texts.specs.Answers.{remarks_table, rule_value, rules_value, verdict_table, verdict_word, with_question}
+use Rattle.texts.specs.Answers.{allowing_table, answer_value, attr_table, caller_table, difference_value, is_of_access, other_value, others_table}
+use Rattle.texts.specs.Answers.{otherwise_table, otherwise_value, place_table, reason_if, reason_word, remarks_table, rule_value, rules_value, verdict_table}
+use Rattle.texts.specs.Answers.{verdict_word, with_question}
+use Rattle.texts.specs.MdsAnswers.{failures_value, grant_value, mds_rule_value, mds_rules_value, mds_table, mds_value, mds_word}
 use Rattle.texts.specs.Changes.{change_table, change_value, with_witness}
-use Rattle.texts.specs.Findings.{finding_table, undone_value}
+use Rattle.policy_analysis.specs.declared.releases.Releases.{Releases}
+use Rattle.texts.specs.Findings.{finding_table, refused_value, releases_table, undone_value}
+use Rattle.policy_analysis.specs.Releases.{releases_numbers}
 use Rattle.texts.specs.Standings.{known_table, standing_table, standing_value, with_client}
 
 -- ---- any values
@@ -160,14 +174,63 @@ flat-otherwise other =
 flat-other : (other : Option Otherwise) → AllFlat 2 (otherwise_table other)
 flat-other other = (flat-or_null 2 otherwise_value flat-otherwise other, tt)
 
-flat-remarks : (left : Option ℕ) (other : Option Otherwise) → AllFlat 2 (remarks_table left other)
-flat-remarks left other = (flat-or_null 2 natural (flat-natural 2) left, flat-other other)
+flat-reason : (condition : Bool) (reason : Reason) → IsFlat 1 (reason_if condition reason)
+flat-reason true reason = flat-string 1 (reason_word reason)
+flat-reason false reason = (refl, omega arith)
 
-pub plain-answer : (q : Question) (v : Verdict) (left : Option ℕ) (other : Option Otherwise) → IsPlain (answer_value q v left other)
-plain-answer q v left other =
+flat-by_release : (other : Other) → IsFlat 2 (other_value other)
+flat-by_release other =
+    flat-object_of 1
+    ((codes "verdict", string (verdict_word other.allows)) ∷ (codes "grant", natural other.grant)
+    ∷ (codes "by_grant", reason_if (not (is_of_access other.reason)) other.reason) ∷ (codes "by_access", reason_if (is_of_access other.reason) other.reason) ∷ [])
+    (flat-string 1 (verdict_word other.allows), (flat-natural 1 other.grant, (flat-reason (not (is_of_access other.reason)) other.reason, (flat-reason (is_of_access other.reason) other.reason, tt))))
+
+flat-others : (others : Others) → AllFlat 2 (others_table others)
+flat-others others =
+    (flat-or_null 2 other_value flat-by_release others.pacific, (flat-or_null 2 other_value flat-by_release others.reef, (flat-or_null 2 other_value flat-by_release others.tentacle, tt)))
+
+flat-remarks : (left : Option ℕ) (others : Others) → AllFlat 2 (remarks_table left others)
+flat-remarks left others = (flat-or_null 2 natural (flat-natural 2) left, flat-others others)
+
+pub plain-answer : (q : Question) (v : Verdict) (left : Option ℕ) (others : Others) → IsPlain (answer_value q v left others)
+plain-answer q v left others =
     let asked = with_question q no_members in
     let judged = with_all (verdict_table v) asked in
-    plain-object (with_all (remarks_table left other) judged) (flat-with_all 2 (remarks_table left other) judged (flat-remarks left other) (flat-with_all 2 (verdict_table v) asked (flat-verdict v) (flat-question q no_members (none 2))))
+    plain-object (with_all (remarks_table left others) judged) (flat-with_all 2 (remarks_table left others) judged (flat-remarks left others) (flat-with_all 2 (verdict_table v) asked (flat-verdict v) (flat-question q no_members (none 2))))
+
+-- ---- those of releases
+
+flat-mds_rule : (failure : ℕ × MdsRule) → IsFlat 1 (mds_rule_value failure)
+flat-mds_rule failure =
+    flat-object_of 0 ((codes "grant", natural failure.0) ∷ (codes "rule", natural (mds_number failure.1)) ∷ (codes "word", string (mds_rule_word failure.1)) ∷ [])
+    (flat-natural 0 failure.0, (flat-natural 0 (mds_number failure.1), (flat-string 0 (mds_rule_word failure.1), tt)))
+
+flat-mds_rules : (rules : List MdsRule) → IsFlat 2 (mds_rules_value rules)
+flat-mds_rules rules = let both = flat-items 1 mds_rule_value flat-mds_rule (enumerate_from 1 rules) in (both.0, omega (arith, both.1))
+
+flat-null : IsFlat 2 null
+flat-null = (refl, omega arith)
+
+flat-grant_value : (v : MdsVerdict) → IsFlat 2 (grant_value v)
+flat-grant_value mds.CannotMount = flat-null
+flat-grant_value (mds.Allowed grant) = flat-natural 2 grant
+flat-grant_value (mds.DependsOnAddress grant) = flat-natural 2 grant
+flat-grant_value (mds.Denied rules) = flat-null
+
+flat-failures_value : (v : MdsVerdict) → IsFlat 2 (failures_value v)
+flat-failures_value mds.CannotMount = flat-null
+flat-failures_value (mds.Allowed grant) = flat-null
+flat-failures_value (mds.DependsOnAddress grant) = flat-null
+flat-failures_value (mds.Denied rules) = flat-mds_rules rules
+
+flat-mds : (release : Release) (v : MdsVerdict) (refused : Option ℕ) → AllFlat 2 (mds_table release v refused)
+flat-mds release v refused =
+    (flat-string 2 (version_of release), (flat-string 2 (mds_word v), (flat-grant_value v, (flat-failures_value v, (flat-or_null 2 natural (flat-natural 2) refused, tt)))))
+
+pub plain-mds : (release : Release) (q : Question) (v : MdsVerdict) (refused : Option ℕ) → IsPlain (mds_value release q v refused)
+plain-mds release q v refused =
+    let asked = with_question q no_members in
+    plain-object (with_all (mds_table release v refused) asked) (flat-with_all 2 (mds_table release v refused) asked (flat-mds release v refused) (flat-question q no_members (none 2)))
 
 -- ---- those of pieces
 
@@ -181,6 +244,7 @@ flat-piece (Access access) = flat-string 2 (access_word access)
 flat-piece (Path path) = flat-bytes (path_text (map (λ name. name.now) path.now))
 flat-piece (Caps caps) = flat-bytes (text_of caps)
 flat-piece (Rules rules) = flat-rules rules.now
+flat-piece (MdsRules rules) = flat-mds_rules rules.now
 
 flat-pieces : (table : List Row) → AllFlat 2 (map member_of table)
 flat-pieces [] = tt
@@ -235,6 +299,13 @@ pub plain-undone : (grant : ℕ) (w : Witness) → IsPlain (undone_value grant w
 plain-undone grant w =
     let begun = with_all (finding_table (codes "root-squash-undone") grant) no_members in
     plain-object (with_witness (codes "allowed_by") w begun) (flat-witness (codes "allowed_by") w begun (flat-finding (codes "root-squash-undone") grant))
+
+pub plain-refused : (grant : ℕ) (releases : Releases) (w : Witness) → IsPlain (refused_value grant releases w)
+plain-refused grant releases w =
+    let table = releases_table (codes "refused-by-clients") grant releases in
+    let begun = with_all table no_members in
+    plain-object (with_witness (codes "refused_by") w begun)
+    (flat-witness (codes "refused_by") w begun (flat-with_all 2 table no_members (flat-string 2 (codes "refused-by-clients"), (flat-natural 2 grant, (flat-numbers (releases_numbers releases), tt))) (none 2)))
 
 -- the same of members that are known to be these
 pub plain-as : (ms : Members) (d : Data) → object ms ≡ d → IsPlain d → IsPlain (object ms)

@@ -137,7 +137,7 @@ laid_out : (attr : Attr) (grant : ℕ) (s : List ℕ) → left_line attr (Some g
 unfolding inode_text
 laid_out attr grant s = simp append_assoc
 
-abbrev IsSmall : Attr → Type 0
+abbrev pub IsSmall : Attr → Type 0
 IsSmall attr = (attr.uid < 2 ^ 32) × (attr.gid < 2 ^ 32) × (attr.mode < 2 ^ 12)
 
 one_owner : (a b : Attr) (s t : List ℕ) → IsSmall a → IsSmall b → owner a s ≡ owner b t → (a ≡ b) × (s ≡ t)
@@ -151,7 +151,7 @@ one_owner a b s t small also same =
     let three : a.mode ≡ b.mode = bits.0 in
     (λ i. record { uid = one i; gid = two i; mode = three i }, bits.1)
 
-one_left : (a b : Attr) (left also : Option ℕ) (s t : List ℕ) → IsSmall a → IsSmall b → IfSome left (λ grant. grant < 2 ^ 32) → IfSome also (λ grant. grant < 2 ^ 32) → (first_byte s ≡ 110 → ⊥) → (first_byte t ≡ 110 → ⊥)
+pub one_left : (a b : Attr) (left also : Option ℕ) (s t : List ℕ) → IsSmall a → IsSmall b → IfSome left (λ grant. grant < 2 ^ 32) → IfSome also (λ grant. grant < 2 ^ 32) → (first_byte s ≡ 110 → ⊥) → (first_byte t ≡ 110 → ⊥)
     → left_line a left ++ s ≡ left_line b also ++ t → AreLeftAlike a left b also × (s ≡ t)
 one_left a b None None s t p q small too unlike likewise same = (tt, same)
 one_left a b None (Some h) s t p q small too unlike likewise same = absurd (unlike (ap first_byte (same ∙ laid_out b h t)))
@@ -174,7 +174,7 @@ no_left : (other : Option Otherwise) (s : List ℕ) → IsOther s → first_byte
 no_left None s low is = omega (arith, low, is)
 no_left (Some other) s low is = not_judged other.allows other.grant other.by_grant other.by_access s low is
 
-in_lines : (q : Question) (v : Verdict) (left : Option ℕ) (other : Option Otherwise) (s : List ℕ)
+pub in_lines : (q : Question) (v : Verdict) (left : Option ℕ) (other : Option Otherwise) (s : List ℕ)
     → remarked_text q v left other ++ s ≡ answer_line q.access (path_text q.path) v ++ 10 ∷ (left_line q.attr left ++ (otherwise_lines [] other ++ s))
 in_lines q v left other s =
     let answer : List ℕ = answer_line q.access (path_text q.path) v in

@@ -1,8 +1,8 @@
 -- The object that answers a question.
-use Rattle.std.specs.Prelude.{◌≡◌, ◌<◌, ◌^◌, ℕ, Bool, Option, List, [], ◌∷◌, codes, map, if◌then◌else◌}
+use Rattle.std.specs.Prelude.{◌≡◌, ◌<◌, ◌^◌, ℕ, Bool, true, false, not, Option, List, [], ◌∷◌, codes, map, if◌then◌else◌}
 use Rattle.std.specs.List.{enumerate_from}
 use Rattle.hex.specs.Hex.{IsBytes}
-use Rattle.serde_json.specs.Data.{Data, Members, array, no_members, object, string}
+use Rattle.serde_json.specs.Data.{Data, Members, array, no_members, null, object, string}
 use Rattle.serde_json.specs.View.{items_of}
 use Rattle.capbits.specs.declared.caller.Caller.{Caller}
 use Rattle.capgrant.specs.declared.access.Access.{Access}
@@ -16,6 +16,10 @@ use Rattle.capgrant.specs.Rule.{rule_number, rule_word}
 use Rattle.policy_analysis.specs.declared.differences.Difference.{Difference}
 use Rattle.policy_analysis.specs.declared.differences.Difference.TheVariants.{AttributeByFlag, LargeUid, ModeByBits, OtherFileSystem}
 use Rattle.policy_analysis.specs.declared.differences.Otherwise.{Otherwise}
+use Rattle.release_rules.specs.declared.beside.Otherwise.{Otherwise as Other}
+use Rattle.release_rules.specs.declared.beside.Others.{Others}
+use Rattle.release_rules.specs.declared.beside.Reason.{Reason}
+use Rattle.release_rules.specs.declared.beside.Reason.TheVariants as reasons
 use Rattle.texts.specs.Explaining.{path_text}
 use Rattle.texts.specs.Lines.{HasNumber}
 use Rattle.texts.specs.PartTexts.{mode_text}
@@ -41,9 +45,13 @@ with_question q ms = with_all (attr_table q.attr) (with_all (caller_table q.call
 
 -- ---- the verdict
 
+-- the grant of this number fails by the rule of that number and word
+abbrev pub failure_value : ℕ → ℕ → List ℕ → Data
+failure_value grant rule word = object_of ((codes "grant", natural grant) ∷ (codes "rule", natural rule) ∷ (codes "word", string word) ∷ [])
+
 -- by which rule the grant of this number fails
 abbrev pub rule_value : ℕ × Rule → Data
-rule_value failure = object_of ((codes "grant", natural failure.0) ∷ (codes "rule", natural (rule_number failure.1)) ∷ (codes "word", string (rule_word failure.1)) ∷ [])
+rule_value failure = failure_value failure.0 (rule_number failure.1) (rule_word failure.1)
 
 -- the grants by number, from 1, with the rule by which each fails
 abbrev pub rules_value : List Rule → Data
@@ -77,17 +85,46 @@ otherwise_value other = object_of ((codes "verdict", string (verdict_word other.
 abbrev pub otherwise_table : Option Otherwise → Table
 otherwise_table other = (codes "ceph16", or_null otherwise_value other) ∷ []
 
+abbrev pub reason_word : Reason → List ℕ
+reason_word reasons.OtherFileSystem = codes "other-file-system"
+reason_word reasons.ZeroUid = codes "zero-uid"
+reason_word reasons.LargeUid = codes "large-uid"
+reason_word reasons.PathAsText = codes "path-as-text"
+reason_word reasons.AttributeByFlag = codes "attribute-by-flag"
+reason_word reasons.ModeByBits = codes "mode-by-bits"
+reason_word reasons.GroupsInOrder = codes "groups-in-order"
+reason_word reasons.OtherText = codes "other-text"
+
+-- the access makes the difference, and not the grant
+abbrev pub is_of_access : Reason → Bool
+is_of_access reasons.AttributeByFlag = true
+is_of_access reasons.ModeByBits = true
+is_of_access reason = false
+
+abbrev pub reason_if : Bool → Reason → Data
+reason_if condition reason = if condition then string (reason_word reason) else null
+
+-- what the MDS of a release answers, by which grant, and why
+abbrev pub other_value : Other → Data
+other_value other =
+    object_of ((codes "verdict", string (verdict_word other.allows)) ∷ (codes "grant", natural other.grant)
+    ∷ (codes "by_grant", reason_if (not (is_of_access other.reason)) other.reason) ∷ (codes "by_access", reason_if (is_of_access other.reason) other.reason) ∷ [])
+
+-- of each release what it answers, where that is something else
+abbrev pub others_table : Others → Table
+others_table others = (codes "ceph16", or_null other_value others.pacific) ∷ (codes "ceph18", or_null other_value others.reef) ∷ (codes "ceph20", or_null other_value others.tentacle) ∷ []
+
 -- the grant that leaves the inode's owner, group and mode to the client, and this
-abbrev pub remarks_table : Option ℕ → Option Otherwise → Table
-remarks_table left other = (codes "left_to_client", or_null natural left) ∷ otherwise_table other
+abbrev pub remarks_table : Option ℕ → Others → Table
+remarks_table left others = (codes "left_to_client", or_null natural left) ∷ others_table others
 
 -- all of it
-abbrev pub answer_value : Question → Verdict → Option ℕ → Option Otherwise → Data
-answer_value q verdict left other = object (with_all (remarks_table left other) (with_all (verdict_table verdict) (with_question q no_members)))
+abbrev pub answer_value : Question → Verdict → Option ℕ → Others → Data
+answer_value q verdict left others = object (with_all (remarks_table left others) (with_all (verdict_table verdict) (with_question q no_members)))
 
 -- as a line
-abbrev pub answer_object : Question → Verdict → Option ℕ → Option Otherwise → List ℕ
-answer_object q verdict left other = json_line (answer_value q verdict left other)
+abbrev pub answer_object : Question → Verdict → Option ℕ → Others → List ℕ
+answer_object q verdict left others = json_line (answer_value q verdict left others)
 
 -- ---- one answer for an object
 
@@ -104,5 +141,5 @@ AskTheSame q r = (q.access ≡ r.access) × (path_text q.path ≡ path_text r.pa
 
 -- answers that are the same object are the same answer to the same question
 abbrev pub OneAnswer : Type 0
-OneAnswer = (q r : Question) (v w : Verdict) (left also : Option ℕ) (other further : Option Otherwise) → IsAskable q → IsAskable r
-    → answer_value q v left other ≡ answer_value r w also further → AskTheSame q r × (v ≡ w) × (left ≡ also) × (other ≡ further)
+OneAnswer = (q r : Question) (v w : Verdict) (left also : Option ℕ) (others further : Others) → IsAskable q → IsAskable r
+    → answer_value q v left others ≡ answer_value r w also further → AskTheSame q r × (v ≡ w) × (left ≡ also) × (others ≡ further)

@@ -3,13 +3,17 @@ use Rattle.std.specs.Prelude.{◌≡◌, ℕ, Bool, not, Option, Some, None, Lis
 use Rattle.std.specs.List.{flat_map}
 use Rattle.serde_json.specs.Data.{Data, no_members, object, string}
 use Rattle.policy_analysis.specs.declared.finding.Finding.{Finding}
+use Rattle.policy_analysis.specs.declared.oddity.Oddity.{Oddity}
+use Rattle.policy_analysis.specs.declared.oddity.Oddity.TheVariants.{CommandsMds, GidsAlone, LargeUid, NoNetwork, TwoSlashes, ZeroUid}
 use Rattle.policy_analysis.specs.declared.witness.Witness.{Witness}
 use Rattle.policy_analysis.specs.declared.unread.Unread.{Unread}
 use Rattle.policy_analysis.specs.declared.unread.Unread.TheVariants.{AnyFileSystem, Order, WhiteSpace}
 use Rattle.capspec.specs.Items.{key_name as name}
 use Rattle.texts.specs.Found.{Found, SameOfGrant, all_found}
-use Rattle.texts.specs.Found.Found.{covered, nothing, stands, undone, unread}
-use Rattle.texts.specs.Values.{ReadsBack, Table, json_line, natural, object_of, with_all}
+use Rattle.texts.specs.Found.Found.{covered, nothing, odd, refused, stands, undone, unread}
+use Rattle.policy_analysis.specs.declared.releases.Releases.{Releases}
+use Rattle.policy_analysis.specs.Releases.{releases_numbers}
+use Rattle.texts.specs.Values.{ReadsBack, Table, json_line, natural, numbers_value, object_of, with_all}
 use Rattle.texts.specs.Answers.{IsAskable}
 use Rattle.texts.specs.Changes.{asked_by, with_witness}
 
@@ -51,6 +55,28 @@ finding_objects f why =
     ++ (finding_if (not f.has_ceph_text) (codes "unread-by-ceph-16") f.grant
     ++ stands_object f.grant why)))
 
+-- ---- by the rules of releases
+
+abbrev pub oddity_word : Oddity → List ℕ
+oddity_word ZeroUid = codes "zero-uid"
+oddity_word GidsAlone = codes "gids-alone"
+oddity_word CommandsMds = codes "mds-commands"
+oddity_word NoNetwork = codes "no-network"
+oddity_word TwoSlashes = codes "two-slashes"
+oddity_word LargeUid = codes "large-uid"
+
+-- this is found of the grant of this number by the rules of these releases
+abbrev pub releases_table : List ℕ → ℕ → Releases → Table
+releases_table finding grant releases =
+    (codes "finding", string finding) ∷ (codes "grant", natural grant) ∷ (codes "releases", numbers_value (releases_numbers releases)) ∷ []
+
+abbrev pub odd_value : ℕ → Releases → Oddity → Data
+odd_value grant releases oddity = object_of (releases_table (oddity_word oddity) grant releases)
+
+-- its clients refuse a question that it allows, and the grant by which they do
+abbrev pub refused_value : ℕ → Releases → Witness → Data
+refused_value grant releases w = object (with_witness (codes "refused_by") w (with_all (releases_table (codes "refused-by-clients") grant releases) no_members))
+
 -- ---- one finding for an object
 
 -- the object for one thing that is found of the grant of this number, and its line
@@ -60,6 +86,8 @@ found_value grant nothing = object_of (finding_table (codes "allows-nothing") gr
 found_value grant (undone w) = undone_value grant w
 found_value grant unread = object_of (finding_table (codes "unread-by-ceph-16") grant)
 found_value grant (stands why) = object_of (stands_table grant why)
+found_value grant (odd releases oddity) = odd_value grant releases oddity
+found_value grant (refused releases w) = refused_value grant releases w
 
 abbrev pub found_object : ℕ × Found → List ℕ
 found_object x = json_line (found_value x.0 x.1)
@@ -67,6 +95,7 @@ found_object x = json_line (found_value x.0 x.1)
 -- the question of one that has one can be asked
 abbrev pub IsAskableIf : Found → Type 0
 IsAskableIf (undone w) = IsAskable (asked_by w)
+IsAskableIf (refused releases w) = IsAskable (asked_by w)
 IsAskableIf found = Unit {0}
 
 -- who reads its object has it again

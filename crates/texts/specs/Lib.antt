@@ -18,3 +18,6 @@ pub mod Changes
 pub mod Findings
 pub mod ScriptLines
 pub mod Watched
+pub mod Mds
+pub mod MdsAnswers
+pub mod MdsTold

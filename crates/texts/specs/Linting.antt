@@ -2,10 +2,15 @@
 use Rattle.std.specs.Prelude.{ℕ, Bool, true, not, Option, Some, None, is_some, List, [], ◌++◌, codes, if◌then◌else◌}
 use Rattle.std.specs.Fmt.{decimal}
 use Rattle.policy_analysis.specs.declared.finding.Finding.{Finding}
+use Rattle.policy_analysis.specs.declared.oddity.Oddity.{Oddity}
+use Rattle.policy_analysis.specs.declared.oddity.Oddity.TheVariants.{CommandsMds, GidsAlone, LargeUid, NoNetwork, TwoSlashes, ZeroUid}
+use Rattle.policy_analysis.specs.declared.witness.Witness.{Witness}
 use Rattle.policy_analysis.specs.declared.unread.Unread.{Unread}
 use Rattle.policy_analysis.specs.declared.unread.Unread.TheVariants.{AnyFileSystem, Order, WhiteSpace}
 use Rattle.capspec.specs.Items.{key_name as name}
+use Rattle.policy_analysis.specs.declared.releases.Releases.{Releases}
 use Rattle.texts.specs.Comparing.{found_line}
+use Rattle.policy_analysis.specs.Releases.{releases_text}
 
 abbrev pub covered_text : List ℕ
 covered_text = codes ": covered by the others\n"
@@ -37,3 +42,21 @@ finding_lines f unread =
     ++ (found_line (codes "root_squash undone, ") f.undoing
     ++ (reported_if (not f.has_ceph_text) f.grant unread_text
     ++ stands_line f.grant unread))))
+
+-- ---- by the rules of releases
+
+abbrev pub oddity_text : Oddity → List ℕ
+oddity_text ZeroUid = codes ": uid=0 is no uid, so it is for every user\n"
+oddity_text GidsAlone = codes ": gids mean nothing without a uid, so it is for every user\n"
+oddity_text CommandsMds = codes ": commands every MDS, whatever its fsname\n"
+oddity_text NoNetwork = codes ": network without an address and a length, so it is for nobody\n"
+oddity_text TwoSlashes = codes ": two slashes side by side in its path, so it is for nothing\n"
+oddity_text LargeUid = codes ": large uid, which no caller has, so it is for nobody\n"
+
+-- what is odd in the grant of this number, by these releases
+abbrev pub odd_line : ℕ → Releases → Oddity → List ℕ
+odd_line grant releases oddity = reported_if true grant (codes ": " ++ (releases_text releases ++ oddity_text oddity))
+
+-- what the grant of this number allows and clients of these releases refuse
+abbrev pub refused_line : ℕ → Releases → Witness → List ℕ
+refused_line grant releases w = reported_if true grant (codes ": " ++ (releases_text releases ++ found_line (codes ": refused by clients, ") (Some w)))

@@ -6,8 +6,9 @@ use Rattle.capbits.specs.Text.{text_of}
 use Rattle.capgrant.specs.Access.{access_word}
 use Rattle.texts.specs.Explaining.{path_text}
 use Rattle.texts.specs.declared.table.Piece.{Piece}
-use Rattle.texts.specs.declared.table.Piece.TheVariants.{Access, Bytes, Caps, Null, Number, Numbers, Path, Rules, Word}
+use Rattle.texts.specs.declared.table.Piece.TheVariants.{Access, Bytes, Caps, MdsRules, Null, Number, Numbers, Path, Rules, Word}
 use Rattle.texts.specs.Answers.{rules_value}
+use Rattle.texts.specs.MdsAnswers.{mds_rules_value}
 use Rattle.texts.specs.Values.{bytes_value, natural, numbers_value, object_of}
 
 abbrev pub piece_value : Piece → Data
@@ -20,6 +21,7 @@ piece_value (Access access) = string (access_word access)
 piece_value (Path path) = bytes_value (path_text (map (λ name. name.now) path.now))
 piece_value (Caps caps) = bytes_value (text_of caps)
 piece_value (Rules rules) = rules_value rules.now
+piece_value (MdsRules rules) = mds_rules_value rules.now
 
 -- the object with these pieces at these keys
 abbrev pub pieces_value : List (Bor (List ℕ) × Piece) → Data

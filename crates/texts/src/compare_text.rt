@@ -44,7 +44,8 @@ pub(crate) fn print_found(
     Ok(())
 }
 
-fn print_witness(text: &mut Vec<u8>, witness: &Witness<'_>) -> Result<(), AllocError>
+/// Appends the question of a witness, and the number of its grant.
+pub(crate) fn print_witness(text: &mut Vec<u8>, witness: &Witness<'_>) -> Result<(), AllocError>
     ensures { OnOk result (text.new.items ≡ text.old.items ++ witness_text witness.now) }
 {
     let names = witness.path.names(*text.allocator())?;

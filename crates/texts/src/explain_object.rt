@@ -5,31 +5,33 @@ ghost use Rattle.texts.specs.Answers.{answer_object, answer_value, difference_va
 ghost use Rattle.texts.specs.Pieces.{piece_value};
 ghost use Rattle.texts.specs.Values.{ReadsBack, natural, or_null, with_all};
 
+use crate::mds_answer::put_others;
 use crate::question_object::put_question;
 use crate::table::{Members, Piece, print_object, put_all};
 use crate::verdict_object::put_verdict;
 use capgrant::{Question, Verdict};
 use policy_analysis::{Difference, Otherwise};
+use release_rules::Others;
 use serde_json::{Map, Value, put};
 use std::alloc::{AllocError, Global};
 
 /// The object that says what is asked, what the verdict is and by which grant or rules, which grant leaves the inode's owner, group and
-/// mode to the client, and what the MDS of Ceph 16 answers where it answers otherwise. It is a line, with its line feed. Only memory can
-/// be missing.
+/// mode to the client, and what the MDS of each release answers where it answers otherwise. It is a line, with its line feed. Only memory
+/// can be missing.
 pub fn answer_object(
     alloc: Global,
     question: &Question<'_>,
     verdict: &Verdict,
     left: Option<u32>,
-    other: &Option<Otherwise>,
+    others: &Others,
 ) -> Result<Vec<u8>, AllocError>
-    ensures line { IfOk result (λ line. line.items ≡ answer_object question.now verdict.now left other.now) }
-    ensures reads { OnOk result (ReadsBack (answer_value question.now verdict.now left other.now)) }
+    ensures line { IfOk result (λ line. line.items ≡ answer_object question.now verdict.now left others.now) }
+    ensures reads { OnOk result (ReadsBack (answer_value question.now verdict.now left others.now)) }
 {
     let mut members = Map::new(alloc);
     put_question(&mut members, alloc, question)?;
     put_verdict(&mut members, alloc, verdict)?;
-    put_remarks(&mut members, alloc, left, other)?;
+    put_remarks(&mut members, alloc, left, others)?;
     let mut line = Vec::new(alloc);
     print_object(&mut line, members)?;
     Ok(line)
@@ -40,12 +42,12 @@ fn put_remarks(
     members: &mut Members,
     alloc: Global,
     left: Option<u32>,
-    other: &Option<Otherwise>,
+    others: &Others,
 ) -> Result<(), AllocError>
-    ensures { OnOk result (members_view members.new.entries ≡ with_all (remarks_table left other.now) (members_view members.old.entries)) }
+    ensures { OnOk result (members_view members.new.entries ≡ with_all (remarks_table left others.now) (members_view members.old.entries)) }
 {
     put_all(members, alloc, &[("left_to_client", number_if(left))])?;
-    put_otherwise(members, alloc, other)
+    put_others(members, alloc, others)
 }
 
 /// Adds what the MDS of Ceph 16 answers where it answers otherwise, and else null.
@@ -86,7 +88,8 @@ fn otherwise_if(alloc: Global, other: &Option<Otherwise>) -> Result<Value, Alloc
     Ok(Value::from(members))
 }
 
-fn verdict_word(allows: bool) -> &'static str
+/// Whether it allows, as a word.
+pub(crate) fn verdict_word(allows: bool) -> &'static str
     ensures { result.now ≡ verdict_word allows }
 {
     if allows { "allowed" } else { "denied" }

@@ -7,6 +7,7 @@ ghost use Rattle.serde_json.specs.Data.{Data};
 ghost use Rattle.texts.specs.Answers.{OneAnswer};
 ghost use Rattle.texts.specs.Changes.{OneChange};
 ghost use Rattle.texts.specs.Findings.{EachHasAnObject, OneFinding};
+ghost use Rattle.texts.specs.MdsAnswers.{OneMdsAnswer};
 ghost use Rattle.texts.specs.Standings.{OneStanding};
 ghost use Rattle.texts.specs.Values.{ReadsBack, bytes_value, json_line};
 
@@ -23,10 +24,11 @@ pub fn one_value_for_a_line()
 {}
 
 /// Two answers that differ, in what is asked, in the verdict, its grant or its rules, or in what is said beside it, are objects that
-/// differ; so their lines do, by the law above. Of a path its text counts. The same holds of what is said of clients, of what
-/// grants gain and lose, and of what is found of them, where each thing has a line of its own.
+/// differ; so their lines do, by the law above. Of a path its text counts. The same holds of what releases answer, of what is said of
+/// clients, of what grants gain and lose, and of what is found of them, where each thing has a line of its own.
 pub fn one_answer_for_an_object()
     ensures answer { OneAnswer }
+    ensures release { OneMdsAnswer }
     ensures client { OneStanding }
     ensures change { OneChange }
     ensures finding { OneFinding }

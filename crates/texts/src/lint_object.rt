@@ -2,12 +2,13 @@
 ghost use Rattle.std.specs.Prelude.{◌≡◌, ◌++◌, All, IfSome, OnOk, true};
 ghost use Rattle.serde_json.specs.View.{members_view};
 ghost use Rattle.texts.specs.Found.{all_found};
-ghost use Rattle.texts.specs.Findings.{IsRead, finding_if, finding_objects, finding_table, stands_object, stands_table, undone_line, undone_value};
-ghost use Rattle.texts.specs.Values.{ReadsBack, object_of, with_all};
+ghost use Rattle.texts.specs.Findings.{IsRead, finding_if, finding_objects, finding_table, odd_value, oddity_word, refused_value, stands_object, stands_table};
+ghost use Rattle.texts.specs.Findings.{undone_line, undone_value};
+ghost use Rattle.texts.specs.Values.{ReadsBack, json_line, object_of, with_all};
 
 use crate::compare_object::put_witness;
 use crate::table::{Members, Piece, print_object, print_pieces, put_all};
-use policy_analysis::{Finding, Unread, Witness};
+use policy_analysis::{Finding, OddGrant, Oddity, Refusal, Releases, Unread, Witness};
 use serde_json::Map;
 use std::alloc::{AllocError, Global};
 
@@ -106,4 +107,55 @@ fn print_as_it_stands(
             print_pieces(lines, &[finding, number, reason, first, second])
         }
     }
+}
+
+/// Appends the object that says what is odd in a grant, by the rules of these releases. It is a line, with its line feed, and who reads it has the
+/// object again. Only memory can be missing.
+pub fn print_odd_object(
+    lines: &mut Vec<u8>,
+    releases: Releases,
+    odd: OddGrant,
+) -> Result<(), AllocError>
+    ensures line { OnOk result (lines.new.items ≡ lines.old.items ++ json_line (odd_value odd.grant releases odd.oddity)) }
+    ensures reads { OnOk result (ReadsBack (odd_value odd.grant releases odd.oddity)) }
+{
+    let finding = ("finding", Piece::Word(word(odd.oddity)));
+    let number = ("grant", Piece::Number(odd.grant as u64));
+    let releases = ("releases", Piece::Numbers(releases.numbers()));
+    print_pieces(lines, &[finding, number, releases])
+}
+
+fn word(oddity: Oddity) -> &'static str
+    ensures { result.now ≡ oddity_word oddity }
+{
+    match oddity {
+        Oddity::ZeroUid => "zero-uid",
+        Oddity::GidsAlone => "gids-alone",
+        Oddity::CommandsMds => "mds-commands",
+        Oddity::NoNetwork => "no-network",
+        Oddity::TwoSlashes => "two-slashes",
+        Oddity::LargeUid => "large-uid",
+    }
+}
+
+/// Appends the object that says what the grant of this number allows and clients refuse. It is a line, with its line feed, and who reads it has
+/// the object again. Only memory can be missing.
+pub fn print_refusal_object(
+    lines: &mut Vec<u8>,
+    grant: usize,
+    refusal: &Refusal<'_>,
+) -> Result<(), AllocError>
+    ensures line { OnOk result (lines.new.items ≡ lines.old.items ++ json_line (refused_value grant refusal.now.releases refusal.now.witness)) }
+    ensures reads { OnOk result (ReadsBack (refused_value grant refusal.now.releases refusal.now.witness)) }
+{
+    let alloc = *lines.allocator();
+    let mut members = Map::new(alloc);
+    let table = [
+        ("finding", Piece::Word("refused-by-clients")),
+        ("grant", Piece::Number(grant as u64)),
+        ("releases", Piece::Numbers(refusal.releases.numbers())),
+    ];
+    put_all(&mut members, alloc, &table)?;
+    put_witness(&mut members, alloc, "refused_by", &refusal.witness)?;
+    print_object(lines, members)
 }

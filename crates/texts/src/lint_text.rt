@@ -1,11 +1,11 @@
 //! The lines that say what is found of a grant.
 
 ghost use Rattle.std.specs.Prelude.{◌≡◌, ◌++◌, OnOk};
-ghost use Rattle.texts.specs.Linting.{finding_lines, reported_if, stands_line};
+ghost use Rattle.texts.specs.Linting.{finding_lines, odd_line, oddity_text, refused_line, reported_if, stands_line};
 
-use crate::compare_text::print_found;
+use crate::compare_text::{print_found, print_witness};
 use capbits::{print, print_numbered, print_str};
-use policy_analysis::{Finding, Unread};
+use policy_analysis::{Finding, OddGrant, Oddity, Refusal, Releases, Unread};
 use std::alloc::AllocError;
 
 const COVERED: &str = ": covered by the others\n";
@@ -69,4 +69,41 @@ fn print_as_it_stands(
             print(text, format_args!("{first} before {second}\n"))
         }
     }
+}
+
+/// Appends the line that says what is odd in a grant, by the rules of these releases. It ends in a line feed. Only memory can be missing.
+pub fn print_odd(text: &mut Vec<u8>, releases: Releases, odd: OddGrant) -> Result<(), AllocError>
+    ensures { OnOk result (text.new.items ≡ text.old.items ++ odd_line odd.grant releases odd.oddity) }
+{
+    let (who, what) = (releases.text(), words(odd.oddity));
+    print_numbered(text, "grant ", odd.grant as u64)?;
+    print(text, format_args!(": {who}{what}"))
+}
+
+fn words(oddity: Oddity) -> &'static str
+    ensures { result.now ≡ oddity_text oddity }
+{
+    match oddity {
+        Oddity::ZeroUid => ": uid=0 is no uid, so it is for every user\n",
+        Oddity::GidsAlone => ": gids mean nothing without a uid, so it is for every user\n",
+        Oddity::CommandsMds => ": commands every MDS, whatever its fsname\n",
+        Oddity::NoNetwork => ": network without an address and a length, so it is for nobody\n",
+        Oddity::TwoSlashes => ": two slashes side by side in its path, so it is for nothing\n",
+        Oddity::LargeUid => ": large uid, which no caller has, so it is for nobody\n",
+    }
+}
+
+/// Appends the line that says what the grant of this number allows and clients refuse. It ends in a line feed. Only memory can be missing.
+pub fn print_refusal(
+    text: &mut Vec<u8>,
+    grant: usize,
+    refusal: &Refusal<'_>,
+) -> Result<(), AllocError>
+    ensures { OnOk result (text.new.items ≡ text.old.items ++ refused_line grant refusal.now.releases refusal.now.witness) }
+{
+    let who = refusal.releases.text();
+    print_numbered(text, "grant ", grant as u64)?;
+    print(text, format_args!(": {who}: refused by clients, "))?;
+    print_witness(text, &refusal.witness)?;
+    Ok(text.push(b'\n')?)
 }

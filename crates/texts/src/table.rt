@@ -5,7 +5,8 @@ ghost use Rattle.texts.specs.Explaining.{path_text};
 ghost use Rattle.hex.specs.Hex.{encode_lower};
 ghost use Rattle.serde_json.specs.Data.{object, string};
 ghost use Rattle.serde_json.specs.View.{members_view, view};
-ghost use Rattle.texts.specs.Answers.{rule_value, rules_value};
+ghost use Rattle.texts.specs.Answers.{failure_value, rules_value};
+ghost use Rattle.texts.specs.MdsAnswers.{mds_rules_value};
 ghost use Rattle.texts.specs.Pieces.{piece_value, pieces_value};
 ghost use Rattle.texts.specs.Values.{IsPlain, ReadsBack, bytes_value, json_line, numbers_value, object_of, with_all};
 
@@ -39,6 +40,8 @@ pub enum Piece<'a> {
     Caps(CapSet),
     /// The rule by which each of several grants fails, in their order.
     Rules(&'a [Rule]),
+    /// The rule of an MDS by which each does.
+    MdsRules(&'a [release_rules::Rule]),
 }
 
 /// Adds these members.
@@ -70,6 +73,7 @@ fn value_of(alloc: Global, piece: &Piece<'_>) -> Result<Value, AllocError>
         Piece::Path(path) => path_value(alloc, path),
         Piece::Caps(caps) => caps_value(alloc, *caps),
         Piece::Rules(rules) => rules_value(alloc, rules),
+        Piece::MdsRules(rules) => mds_rules_value(alloc, rules),
     }
 }
 
@@ -124,23 +128,30 @@ fn rules_value(alloc: Global, rules: &[Rule]) -> Result<Value, AllocError>
 {
     let mut items = Vec::new(alloc);
     for (place, rule) in rules.iter().enumerate() {
-        items.push(rule_value(alloc, place + 1, *rule)?)?;
+        items.push(failure_value(alloc, place + 1, rule.number(), rule.word())?)?;
     }
     Ok(Value::from(items))
 }
 
-fn rule_value(alloc: Global, number: usize, rule: Rule) -> Result<Value, AllocError>
-    ensures { IfOk result (λ value. view value ≡ rule_value (number, rule)) }
+// And those by the rules of an MDS.
+fn mds_rules_value(alloc: Global, rules: &[release_rules::Rule]) -> Result<Value, AllocError>
+    ensures { IfOk result (λ value. view value ≡ mds_rules_value rules.now) }
 {
-    let word = Value::try_from_str(alloc, rule.word())?;
+    let mut items = Vec::new(alloc);
+    for (place, rule) in rules.iter().enumerate() {
+        items.push(failure_value(alloc, place + 1, rule.number(), rule.word())?)?;
+    }
+    Ok(Value::from(items))
+}
+
+// The grant of this number fails by the rule of that number and word.
+fn failure_value(alloc: Global, grant: usize, rule: u8, word: &str) -> Result<Value, AllocError>
+    ensures { IfOk result (λ value. view value ≡ failure_value grant rule word.now) }
+{
+    let word = Value::try_from_str(alloc, word)?;
     let mut members = Map::new(alloc);
-    put(&mut members, alloc, "grant", Value::from(number as u64))?;
-    put(
-        &mut members,
-        alloc,
-        "rule",
-        Value::from(u64::from(rule.number())),
-    )?;
+    put(&mut members, alloc, "grant", Value::from(grant as u64))?;
+    put(&mut members, alloc, "rule", Value::from(u64::from(rule)))?;
     put(&mut members, alloc, "word", word)?;
     Ok(Value::from(members))
 }

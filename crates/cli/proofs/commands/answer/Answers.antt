@@ -2,7 +2,7 @@ use Rattle.std.proofs.Common.{ℕ, List, rules, sym, subst, ◌∙◌}
 use Rattle.std.specs.Prelude.{IfErr}
 use Rattle.std.proofs.lemmas.Result.{IfErr-at_err}
 use Rattle.texts.specs.Watched.{has_failed, inner_of}
-use Rattle.cli_queries.specs.Answers.{StopsExplainArgs}
+use Rattle.cli_queries.specs.Answers.{StopsExplainArgs, StopsGrants, StopsLint}
 use Rattle.cli_queries.specs.AuditArgs.{StopsAuditArgs}
 use Rattle.cli_queries.specs.WhoArgs.{StopsWhoArgs}
 use Rattle.cli_queries.specs.Logging.{StopsLog}
@@ -15,9 +15,15 @@ returns-in-Err-clause-err g c = elim c.match-invocation.branch [
   | in-Explain w ↦
       let stops = λ (fault : AnswerFault). StopsExplainArgs w.in-Explain.explain_args fault (g.R.Read.remaining (inner_of c.args.reader.now)) (has_failed w.explain-answered.new.reader) (has_failed w.explain-answered.new.writer) (g.W.Write.contents (inner_of c.args.writer.now)) (g.W.Write.contents (inner_of w.explain-answered.new.writer)) in
       rw (w.in-Explain.is, w.reader-is, w.writer-is) (IfErr-at_err stops (sym w.answered-is ∙ c.in-Err.is) w.explain-answered.ensures.err)
-  | in-Grants w ↦ search rules
+  | in-Grants w ↦
+      let stops = λ (text : List ℕ) (fault : AnswerFault). StopsGrants w.in-Grants.mds text fault (has_failed w.grants-answered.new.writer) (g.W.Write.contents (inner_of c.args.writer.now)) (g.W.Write.contents (inner_of w.grants-answered.new.writer)) in
+      let reported = subst (λ (text : List ℕ). IfErr w.grants-answered.result (stops text)) w.as_slice.ensures.value w.grants-answered.ensures.fault in
+      rw (w.in-Grants.is, w.writer-is) (IfErr-at_err (stops w.in-Grants.text.items) (sym w.answered-is ∙ c.in-Err.is) reported)
   | in-Compare w ↦ search rules
-  | in-Lint w ↦ search rules
+  | in-Lint w ↦
+      let stops = λ (text : List ℕ) (fault : AnswerFault). StopsLint w.in-Lint.mds text fault (has_failed w.lint-answered.new.writer) (g.W.Write.contents (inner_of c.args.writer.now)) (g.W.Write.contents (inner_of w.lint-answered.new.writer)) in
+      let reported = subst (λ (text : List ℕ). IfErr w.lint-answered.result (stops text)) w.as_slice-in-Lint.ensures.value w.lint-answered.ensures.fault in
+      rw (w.in-Lint.is, w.writer-is) (IfErr-at_err (stops w.in-Lint.text.items) (sym w.answered-is ∙ c.in-Err.is) reported)
   | in-Who w ↦
       let stops = λ (fault : AnswerFault). StopsWhoArgs w.in-Who.who_args fault (g.R.Read.remaining (inner_of c.args.reader.now)) (has_failed w.who-answered.new.reader) (has_failed w.who-answered.new.writer) (g.W.Write.contents (inner_of c.args.writer.now)) (g.W.Write.contents (inner_of w.who-answered.new.writer)) in
       rw (w.in-Who.is, w.reader-is, w.writer-is) (IfErr-at_err stops (sym w.answered-is ∙ c.in-Err.is) w.who-answered.ensures.err)

@@ -1,8 +1,13 @@
-use Rattle.std.proofs.Common.{rules}
-use Rattle.texts.specs.Watched.{has_failed, inner_of}
-use Rattle.cli_queries.proofs.Unwritten.{refused_unwritten}
 use Rattle.cli_queries.proofs.commands.grants.Goals as goal
 
-pub returns-in_err-grants-clause-fault : goal.returns-in_err-grants-clause-fault
-returns-in_err-grants-clause-fault g c =
-    refused_unwritten c.args.text.now (g.W.Write.contents (inner_of c.args.writer.now)) (has_failed c.args.writer.now) c.in_err-grants.field-0.0 c.from_residual.result (search rules) c.from_residual.ensures.1
+pub returns-in-Some-clause-form : goal.returns-in-Some-clause-form
+returns-in-Some-clause-form g c = rw c.in-Some.is c.write_mds_form.ensures.form
+
+pub returns-in-Some-clause-fault : goal.returns-in-Some-clause-fault
+returns-in-Some-clause-fault g c = rw c.in-Some.is c.write_mds_form.ensures.fault
+
+pub returns-in-None-clause-form : goal.returns-in-None-clause-form
+returns-in-None-clause-form g c = rw c.in-None.is c.write_form.ensures.form
+
+pub returns-in-None-clause-fault : goal.returns-in-None-clause-fault
+returns-in-None-clause-fault g c = rw c.in-None.is c.write_form.ensures.fault

@@ -1,5 +1,7 @@
+use Rattle.std.proofs.Common.{List, ℕ, ap, ◌∙◌}
+use Rattle.queries.specs.Remarks.{remarked_answer}
 use Rattle.texts.specs.Watched.{has_failed, inner_of}
-use Rattle.cli_queries.proofs.Unwritten.{line_unwritten, missed_unwritten, refused_question}
+use Rattle.cli_queries.proofs.Unwritten.{line_unwritten, missed_unwritten, refused_question, told_all}
 use Rattle.cli_queries.proofs.commands.write_answer.Goals as goal
 
 pub returns-in_err-question-clause-fault : goal.returns-in_err-question-clause-fault
@@ -25,3 +27,9 @@ returns-in_err-lines-in-More-clause-fault g c =
 pub returns-in_err-object-in-Object-clause-fault : goal.returns-in_err-object-in-Object-clause-fault
 returns-in_err-object-in-Object-clause-fault g c =
     missed_unwritten c.args.values.now c.in_ok-question.question (g.W.Write.contents (inner_of c.args.writer.now)) (has_failed c.args.writer.now) c.from_residual-in_err-object-in-Object.result c.in_ok-question.ensures.ok c.from_residual-in_err-object-in-Object.ensures.1
+
+pub returns-in-More-clause-answer : goal.returns-in-More-clause-answer
+returns-in-More-clause-answer g c =
+    let q = c.in_ok-question.question in
+    told_all _ c.args.form c.args.values.now q (g.W.Write.contents (inner_of c.args.writer.now)) (g.W.Write.contents (inner_of c.write_text.new.writer)) c.as_slice-in-More.result.now c.write_text.result c.in-More.is c.in_ok-question.ensures.ok
+    (c.as_slice-in-More.ensures.value ∙ c.in_ok-lines-in-More.ensures ∙ ap (λ (text : List ℕ). remarked_answer text q) c.as_slice.ensures.value) c.write_text.ensures.status c.write_text.ensures.ok

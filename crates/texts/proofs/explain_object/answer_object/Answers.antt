@@ -10,16 +10,16 @@ pub print_object-requires : goal.print_object-requires
 print_object-requires c =
     let q = c.args.question.now in
     let v = c.args.verdict.now in
-    let remarks = remarks_table c.args.left c.args.other.now in
+    let remarks = remarks_table c.args.left c.args.others.now in
     let judged : members_view c.put_verdict.new.members.entries ≡ with_all (verdict_table v) (with_question q no_members) =
     c.in_ok-put_verdict.ensures ∙ ap (with_all (verdict_table v)) (c.in_ok-put_question.ensures ∙ ap (with_question q) (ap members_view c.new-members.ensures.empty)) in
-    plain-as (members_view c.put_remarks.new.members.entries) (answer_value q v c.args.left c.args.other.now) (ap object (c.in_ok-put_remarks.ensures ∙ ap (with_all remarks) judged)) (plain-answer q v c.args.left c.args.other.now)
+    plain-as (members_view c.put_remarks.new.members.entries) (answer_value q v c.args.left c.args.others.now) (ap object (c.in_ok-put_remarks.ensures ∙ ap (with_all remarks) judged)) (plain-answer q v c.args.left c.args.others.now)
 
 pub returns-clause-line : goal.returns-clause-line
 returns-clause-line c =
     let q = c.args.question.now in
     let v = c.args.verdict.now in
-    let remarks = remarks_table c.args.left c.args.other.now in
+    let remarks = remarks_table c.args.left c.args.others.now in
     let judged : members_view c.put_verdict.new.members.entries ≡ with_all (verdict_table v) (with_question q no_members) =
     c.in_ok-put_verdict.ensures ∙ ap (with_all (verdict_table v)) (c.in_ok-put_question.ensures ∙ ap (with_question q) (ap members_view c.new-members.ensures.empty)) in
     c.in_ok-print_object.ensures.line ∙ ap (λ text. text ++ json_line (object (members_view c.put_remarks.new.members.entries))) c.new-line.ensures.items
@@ -29,7 +29,7 @@ pub returns-clause-reads : goal.returns-clause-reads
 returns-clause-reads c =
     let q = c.args.question.now in
     let v = c.args.verdict.now in
-    let remarks = remarks_table c.args.left c.args.other.now in
+    let remarks = remarks_table c.args.left c.args.others.now in
     let judged : members_view c.put_verdict.new.members.entries ≡ with_all (verdict_table v) (with_question q no_members) =
     c.in_ok-put_verdict.ensures ∙ ap (with_all (verdict_table v)) (c.in_ok-put_question.ensures ∙ ap (with_question q) (ap members_view c.new-members.ensures.empty)) in
     subst (λ (ms : Members). ReadsBack (object ms)) (c.in_ok-put_remarks.ensures ∙ ap (with_all remarks) judged) c.in_ok-print_object.ensures.reads

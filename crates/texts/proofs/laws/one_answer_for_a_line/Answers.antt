@@ -1,8 +1,10 @@
 use Rattle.texts.proofs.Answered.{one_answer}
+use Rattle.texts.proofs.Beside.{one_beside}
 use Rattle.texts.proofs.Compared.{one_comparison}
 use Rattle.texts.proofs.Clients.{no_fault, one_fault, one_standing}
 use Rattle.texts.proofs.Linted.{one_finding}
 use Rattle.texts.proofs.Asked.{is_remarked}
+use Rattle.texts.proofs.MdsAnswered.{one_mds_text}
 use Rattle.texts.proofs.Remarked.{one_remark}
 use Rattle.texts.proofs.laws.one_answer_for_a_line.Goals as goal
 
@@ -29,3 +31,9 @@ returns-clause-remarked c = one_remark
 
 pub returns-clause-remarks : goal.returns-clause-remarks
 returns-clause-remarks c = is_remarked
+
+pub returns-clause-beside : goal.returns-clause-beside
+returns-clause-beside c = one_beside
+
+pub returns-clause-release : goal.returns-clause-release
+returns-clause-release c = one_mds_text

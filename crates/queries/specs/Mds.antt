@@ -1,0 +1,75 @@
+-- What the MDS of a release says to what values ask.
+use Rattle.std.specs.Prelude.{◌≡◌, ⊤, ℕ, Bool, true, false, ◌&&◌, Option, None, Ok, Err, List, if◌then◌else◌}
+use Rattle.capgrant.specs.declared.access.Access.{Access}
+use Rattle.capgrant.specs.declared.access.Access.TheVariants.{Read, SetVxattr, Snapshot}
+use Rattle.capgrant.specs.Question.{Question as Asked}
+use Rattle.capgrant.specs.Question.{question}
+use Rattle.release_rules.specs.declared.asked.Asked.{Asked as AskedFor}
+use Rattle.release_rules.specs.declared.grant.Grant.{Grant}
+use Rattle.release_rules.specs.declared.release.Release.{Release}
+use Rattle.release_rules.specs.declared.verdict.Verdict.{Verdict}
+use Rattle.release_rules.specs.declared.verdict.Verdict.TheVariants.{Allowed, CannotMount}
+use Rattle.release_rules.specs.Asked.{asked_for}
+use Rattle.release_rules.specs.Clients.{client_refuses}
+use Rattle.release_rules.specs.Question.{Question}
+use Rattle.release_rules.specs.Reading.{read_of}
+use Rattle.release_rules.specs.Releases.{switches_of}
+use Rattle.release_rules.specs.Verdicts.{verdict_of}
+use Rattle.texts.specs.Mds.{mds_text}
+use Rattle.texts.specs.MdsAnswers.{mds_object}
+use Rattle.queries.specs.declared.mds.MdsAnswer.{MdsAnswer}
+use Rattle.queries.specs.declared.mds.MdsFault.{MdsFault}
+use Rattle.queries.specs.declared.mds.MdsFault.TheVariants as faults
+use Rattle.queries.specs.declared.question.Asking.{Asking}
+
+-- ---- the grants
+
+-- the release reads these grants in the text
+abbrev pub MdsReads : Release → List ℕ → List Grant → Type 0
+MdsReads release text grants = read_of (switches_of release) text ≡ Ok grants
+
+-- why it reads none: by the text, which is read up to a place; memory may be missing at any time
+abbrev pub IsMdsFault : Release → List ℕ → MdsFault → Type 0
+IsMdsFault release text (faults.NotRead found) = (found.release ≡ release) × (read_of (switches_of release) text ≡ Err (record { at = found.at }))
+IsMdsFault release text faults.NoMemory = ⊤
+
+-- ---- the answer
+
+-- what is asked of an MDS, which is asked for this; the address of the client is not told
+abbrev pub mds_question : Asking → AskedFor → Question
+mds_question a asked = record { fs = a.fs; caller = a.caller; path = a.path; attr = a.attr; asked = asked; address = None }
+
+-- the access changes attributes, as a client checks it before it asks; to write may be to change the size or the times
+abbrev pub changes_attributes : Access → Bool
+changes_attributes Read = false
+changes_attributes SetVxattr = false
+changes_attributes Snapshot = false
+changes_attributes access = true
+
+abbrev pub mounts : Verdict → Bool
+mounts CannotMount = false
+mounts verdict = true
+
+-- what the MDS of the release says, and by which grant the client itself refuses, where it comes to ask and does
+abbrev pub answer_by : Release → Asking → List Grant → MdsAnswer
+answer_by release a grants =
+    let switches = switches_of release in
+    let asked = mds_question a (asked_for a.access) in
+    let verdict = verdict_of switches asked grants in
+    record { release = release; verdict = verdict; refused = if mounts verdict && changes_attributes a.access then client_refuses switches asked grants else None }
+
+abbrev pub is_allowed : Verdict → Bool
+is_allowed (Allowed grant) = true
+is_allowed verdict = false
+
+-- as lines
+abbrev pub lines_by : Asking → MdsAnswer → List ℕ
+lines_by a answer = mds_text a.access a.path answer.verdict answer.refused
+
+-- what is asked, as this server asks it
+abbrev pub asked_by : Asking → Asked
+asked_by a = question a.fs a.caller a.path a.attr a.access
+
+-- as an object
+abbrev pub object_by : Asking → MdsAnswer → List ℕ
+object_by a answer = mds_object answer.release (asked_by a) answer.verdict answer.refused

@@ -1,0 +1,158 @@
+-- The lines by a release tell one answer.
+use Rattle.std.proofs.Common.{◌≡◌, ℕ, ◌+◌, ◌<◌, ◌^◌, Option, Some, None, List, [], ◌∷◌, ◌++◌, drop, refl, sym, ap, ◌∙◌, append_assoc, arith}
+use Rattle.std.specs.Prelude.{codes}
+use Rattle.std.specs.Fmt.{decimal}
+use Rattle.std.specs.List.{enumerate_from, flat_map}
+use Rattle.std.proofs.lemmas.Fmt.{decimal_injective}
+use Rattle.std.proofs.lemmas.List.{append_cancel_left}
+use Rattle.capgrant.specs.declared.access.Access.{Access}
+use Rattle.capgrant.specs.Access.{access_word}
+use Rattle.release_rules.specs.declared.rule.Rule.{Rule}
+use Rattle.release_rules.specs.declared.rule.Rule.TheVariants as rules
+use Rattle.release_rules.specs.declared.verdict.Verdict.{Verdict}
+use Rattle.release_rules.specs.declared.verdict.Verdict.TheVariants.{Allowed, CannotMount, Denied, DependsOnAddress}
+use Rattle.release_rules.specs.Rules.{rule_number, rule_word}
+use Rattle.texts.specs.Explaining.{path_text}
+use Rattle.texts.specs.Lines.{HasNumber}
+use Rattle.texts.specs.Mds.{mds_failure, mds_failures, mds_outcome, mds_reason, mds_text, refused_line}
+use Rattle.texts.specs.MdsTold.{HasMdsGrant, HasRefusal}
+use Rattle.texts.specs.Quoting.{quoted}
+use Rattle.texts.proofs.Answered.{number_and, number_to, parted, plain_number}
+use Rattle.texts.proofs.MdsDistinct.{has_number, numbered}
+use Rattle.texts.proofs.Quoted.{bare, clash, first_byte}
+
+-- ---- rules
+
+small_number : (r : Rule) → rule_number r < 2 ^ 64
+small_number rules.FsName = omega arith
+small_number rules.Uid = omega arith
+small_number rules.Gids = omega arith
+small_number rules.Path = omega arith
+small_number rules.NoWrite = omega arith
+small_number rules.RootSquash = omega arith
+small_number rules.NoP = omega arith
+small_number rules.NoS = omega arith
+small_number rules.NotOwner = omega arith
+small_number rules.NotOwnGroup = omega arith
+small_number rules.ModeBits = omega arith
+small_number rules.NoF = omega arith
+small_number rules.Network = omega arith
+
+abbrev before_number : ℕ → List ℕ
+before_number k = codes "grant " ++ (decimal k ++ codes " rule ")
+
+in_front : (k : ℕ) (r : Rule) (s : List ℕ) → mds_failure (k, r) ++ s ≡ before_number k ++ (decimal (rule_number r) ++ 32 ∷ (rule_word r ++ s))
+in_front k r s = simp append_assoc
+
+one_failure : (k : ℕ) (r q : Rule) (s t : List ℕ) → mds_failure (k, r) ++ s ≡ mds_failure (k, q) ++ t → (r ≡ q) × (s ≡ t)
+one_failure k r q s t same =
+    let behind = append_cancel_left (before_number k) (decimal (rule_number r) ++ 32 ∷ (rule_word r ++ s)) (decimal (rule_number q) ++ 32 ∷ (rule_word q ++ t)) (sym (in_front k r s) ∙ same ∙ in_front k q t) in
+    let small = small_number r in
+    let also = small_number q in
+    let apart = bare (decimal (rule_number r)) (decimal (rule_number q)) (rule_word r ++ s) (rule_word q ++ t) (plain_number (rule_number r) small) (plain_number (rule_number q) also) behind in
+    let rule : r ≡ q = sym (has_number r) ∙ ap numbered (decimal_injective (rule_number r) (rule_number q) small also apart.0) ∙ has_number q in
+    (rule, append_cancel_left (rule_word r) s t (apart.1 ∙ ap (λ (x : Rule). rule_word x ++ t) (sym rule)))
+
+abbrev further : ℕ × Rule → List ℕ
+further failure = codes ", " ++ mds_failure failure
+
+-- a line feed stands behind the last
+one_row : (n : ℕ) (rs qs : List Rule) (s t : List ℕ) → flat_map further (enumerate_from n rs) ++ 10 ∷ s ≡ flat_map further (enumerate_from n qs) ++ 10 ∷ t → (rs ≡ qs) × (s ≡ t)
+one_row n [] [] s t same = (refl, append_cancel_left (codes "\n") s t same)
+one_row n [] (q ∷ qs) s t same = clash 10 44 (omega arith) (ap first_byte same)
+one_row n (r ∷ rs) [] s t same = clash 10 44 (omega arith) (sym (ap first_byte same))
+one_row n (r ∷ rs) (q ∷ qs) s t same =
+    let more : List ℕ = flat_map further (enumerate_from (n + 1) rs) in
+    let others : List ℕ = flat_map further (enumerate_from (n + 1) qs) in
+    let behind = append_cancel_left (codes ", ") (mds_failure (n, r) ++ (more ++ 10 ∷ s)) (mds_failure (n, q) ++ (others ++ 10 ∷ t)) (sym (append_assoc (further (n, r)) more (10 ∷ s)) ∙ same ∙ append_assoc (further (n, q)) others (10 ∷ t)) in
+    let both = one_failure n r q (more ++ 10 ∷ s) (others ++ 10 ∷ t) behind in
+    let rest = one_row (n + 1) rs qs s t both.1 in
+    let here : r ≡ q = both.0 in
+    let all : rs ≡ qs = rest.0 in
+    (cc, rest.1)
+
+one_list : (rs qs : List Rule) (s t : List ℕ) → mds_failures rs ++ 10 ∷ s ≡ mds_failures qs ++ 10 ∷ t → (rs ≡ qs) × (s ≡ t)
+one_list [] [] s t same = (refl, append_cancel_left (codes "no grants\n") s t same)
+one_list [] (q ∷ qs) s t same = clash 103 110 (omega arith) (sym (ap first_byte same))
+one_list (r ∷ rs) [] s t same = clash 103 110 (omega arith) (ap first_byte same)
+one_list (r ∷ rs) (q ∷ qs) s t same =
+    let more : List ℕ = flat_map further (enumerate_from 2 rs) in
+    let others : List ℕ = flat_map further (enumerate_from 2 qs) in
+    let both = one_failure 1 r q (more ++ 10 ∷ s) (others ++ 10 ∷ t) (sym (append_assoc (mds_failure (1, r)) more (10 ∷ s)) ∙ same ∙ append_assoc (mds_failure (1, q)) others (10 ∷ t)) in
+    let rest = one_row 2 rs qs s t both.1 in
+    let here : r ≡ q = both.0 in
+    let all : rs ≡ qs = rest.0 in
+    (cc, rest.1)
+
+-- no list of rules is the want of a mount
+no_mount : {A : Type 0} (rs : List Rule) (s t : List ℕ) → codes "no grant lets the client mount" ++ s ≡ mds_failures rs ++ t → A
+no_mount [] s t same = clash 32 115 (omega arith) (ap (λ (text : List ℕ). first_byte (drop 8 text)) same)
+no_mount (r ∷ rs) s t same = clash 103 110 (omega arith) (sym (ap first_byte same))
+
+-- ---- the refusal
+
+one_refusal : (a b : Option ℕ) → HasRefusal a → HasRefusal b → refused_line a ≡ refused_line b → a ≡ b
+one_refusal None None small also same = refl
+one_refusal None (Some h) small also same = clash 0 116 (omega arith) (ap first_byte same)
+one_refusal (Some g) None small also same = clash 0 116 (omega arith) (sym (ap first_byte same))
+one_refusal (Some g) (Some h) small also same =
+    ap Some (number_and 41 10 g h [] [] refl refl small also (append_cancel_left (codes "the client itself refuses to change attributes (grant ") (decimal g ++ 41 ∷ 10 ∷ []) (decimal h ++ 41 ∷ 10 ∷ []) same)).0
+
+-- ---- all of it
+
+in_parts : (a : Access) (p : List (List ℕ)) (v : Verdict) (refused : Option ℕ)
+    → mds_text a p v refused ≡ mds_outcome v ++ (access_word a ++ 32 ∷ (quoted (path_text p) ++ (mds_reason v ++ 10 ∷ refused_line refused)))
+in_parts a p v refused =
+    let path : List ℕ = quoted (path_text p) in
+    let end : List ℕ = codes "\n" ++ refused_line refused in
+    append_assoc (mds_outcome v) (access_word a ++ (codes " " ++ (path ++ mds_reason v))) end
+    ∙ ap (λ (r : List ℕ). mds_outcome v ++ r)
+    (append_assoc (access_word a) (codes " " ++ (path ++ mds_reason v)) end ∙ ap (λ (r : List ℕ). access_word a ++ 32 ∷ r) (append_assoc path (mds_reason v) end))
+
+module _ (a b : Access) (p q : List (List ℕ)) (refused also : Option ℕ) (fits : HasNumber a) (too : HasNumber b) (small : HasRefusal refused) (likewise : HasRefusal also) where
+  abbrev Told : Verdict → Verdict → Type 0
+  Told v w = (a ≡ b) × (path_text p ≡ path_text q) × (v ≡ w) × (refused ≡ also)
+
+  -- behind one outcome
+  behind : (outcome s t : List ℕ) → outcome ++ (access_word a ++ 32 ∷ (quoted (path_text p) ++ 32 ∷ s)) ≡ outcome ++ (access_word b ++ 32 ∷ (quoted (path_text q) ++ 32 ∷ t))
+      → (a ≡ b) × (path_text p ≡ path_text q) × (s ≡ t)
+  behind outcome s t same =
+      parted a b (path_text p) (path_text q) s t fits too (append_cancel_left outcome (access_word a ++ 32 ∷ (quoted (path_text p) ++ 32 ∷ s)) (access_word b ++ 32 ∷ (quoted (path_text q) ++ 32 ∷ t)) same)
+
+  by_number : (g h : ℕ) → g < 2 ^ 64 → h < 2 ^ 64 → (v w : Verdict) (make : ℕ → Verdict) → v ≡ make g → w ≡ make h
+      → (a ≡ b) × (path_text p ≡ path_text q) × (codes "grant " ++ (decimal g ++ 10 ∷ refused_line refused) ≡ codes "grant " ++ (decimal h ++ 10 ∷ refused_line also)) → Told v w
+  by_number g h low high v w make is too_is all =
+      let number = number_to 10 g h (refused_line refused) (refused_line also) refl low high (append_cancel_left (codes "grant ") (decimal g ++ 10 ∷ refused_line refused) (decimal h ++ 10 ∷ refused_line also) all.2) in
+      (all.0, all.1, is ∙ ap make number.0 ∙ sym too_is, one_refusal refused also small likewise number.1)
+
+  by_verdicts : (v w : Verdict) → HasMdsGrant v → HasMdsGrant w
+      → mds_outcome v ++ (access_word a ++ 32 ∷ (quoted (path_text p) ++ (mds_reason v ++ 10 ∷ refused_line refused))) ≡ mds_outcome w ++ (access_word b ++ 32 ∷ (quoted (path_text q) ++ (mds_reason w ++ 10 ∷ refused_line also)))
+      → Told v w
+  by_verdicts (Allowed g) (Allowed h) low high same = by_number g h low high (Allowed g) (Allowed h) Allowed refl refl (behind (codes "allowed ") (codes "grant " ++ (decimal g ++ 10 ∷ refused_line refused)) (codes "grant " ++ (decimal h ++ 10 ∷ refused_line also)) same)
+  by_verdicts (Allowed g) (DependsOnAddress h) low high same = clash 97 100 (omega arith) (ap first_byte same)
+  by_verdicts (Allowed g) CannotMount low high same = clash 97 100 (omega arith) (ap first_byte same)
+  by_verdicts (Allowed g) (Denied qs) low high same = clash 97 100 (omega arith) (ap first_byte same)
+  by_verdicts (DependsOnAddress g) (Allowed h) low high same = clash 97 100 (omega arith) (sym (ap first_byte same))
+  by_verdicts (DependsOnAddress g) (DependsOnAddress h) low high same = by_number g h low high (DependsOnAddress g) (DependsOnAddress h) DependsOnAddress refl refl (behind (codes "depends on the address: ") (codes "grant " ++ (decimal g ++ 10 ∷ refused_line refused)) (codes "grant " ++ (decimal h ++ 10 ∷ refused_line also)) same)
+  by_verdicts (DependsOnAddress g) CannotMount low high same = clash 110 112 (omega arith) (sym (ap (λ (text : List ℕ). first_byte (drop 2 text)) same))
+  by_verdicts (DependsOnAddress g) (Denied qs) low high same = clash 110 112 (omega arith) (sym (ap (λ (text : List ℕ). first_byte (drop 2 text)) same))
+  by_verdicts CannotMount (Allowed h) low high same = clash 97 100 (omega arith) (sym (ap first_byte same))
+  by_verdicts CannotMount (DependsOnAddress h) low high same = clash 110 112 (omega arith) (ap (λ (text : List ℕ). first_byte (drop 2 text)) same)
+  by_verdicts CannotMount CannotMount low high same =
+      let all = behind (codes "denied ") (codes "no grant lets the client mount" ++ 10 ∷ refused_line refused) (codes "no grant lets the client mount" ++ 10 ∷ refused_line also) same in
+      (all.0, all.1, refl, one_refusal refused also small likewise (append_cancel_left (codes "no grant lets the client mount\n") (refused_line refused) (refused_line also) all.2))
+  by_verdicts CannotMount (Denied qs) low high same =
+      no_mount qs (10 ∷ refused_line refused) (10 ∷ refused_line also) (behind (codes "denied ") (codes "no grant lets the client mount" ++ 10 ∷ refused_line refused) (mds_failures qs ++ 10 ∷ refused_line also) same).2
+  by_verdicts (Denied rs) (Allowed h) low high same = clash 97 100 (omega arith) (sym (ap first_byte same))
+  by_verdicts (Denied rs) (DependsOnAddress h) low high same = clash 110 112 (omega arith) (ap (λ (text : List ℕ). first_byte (drop 2 text)) same)
+  by_verdicts (Denied rs) CannotMount low high same =
+      no_mount rs (10 ∷ refused_line also) (10 ∷ refused_line refused) (sym (behind (codes "denied ") (mds_failures rs ++ 10 ∷ refused_line refused) (codes "no grant lets the client mount" ++ 10 ∷ refused_line also) same).2)
+  by_verdicts (Denied rs) (Denied qs) low high same =
+      let all = behind (codes "denied ") (mds_failures rs ++ 10 ∷ refused_line refused) (mds_failures qs ++ 10 ∷ refused_line also) same in
+      let list = one_list rs qs (refused_line refused) (refused_line also) all.2 in
+      (all.0, all.1, ap Denied list.0, one_refusal refused also small likewise list.1)
+
+pub one_mds_text : (a b : Access) (p q : List (List ℕ)) (v w : Verdict) (refused also : Option ℕ) → HasNumber a → HasNumber b → HasMdsGrant v → HasMdsGrant w → HasRefusal refused → HasRefusal also
+    → mds_text a p v refused ≡ mds_text b q w also → (a ≡ b) × (path_text p ≡ path_text q) × (v ≡ w) × (refused ≡ also)
+one_mds_text a b p q v w refused also fits too low high small likewise same =
+    by_verdicts a b p q refused also fits too small likewise v w low high (sym (in_parts a p v refused) ∙ same ∙ in_parts b q w also)

@@ -1,0 +1,224 @@
+//! What the MDS of a release says to a question, as lines.
+ghost use Rattle.std.specs.Prelude.{◌≡◌, ◌++◌, IfOk, OnOk, map};
+ghost use Rattle.texts.specs.Mds.{beside_text, mds_failure, mds_failures, mds_line, mds_outcome, mds_reason, mds_text, others_lines, reason_text};
+ghost use Rattle.texts.specs.Mds.{refused_line, said, said_line, said_lines, said_word};
+
+use crate::explain_more::remarked_lines;
+use crate::quoting::print_quoted_path;
+use capbits::{print, print_numbered, print_str};
+use capgrant::{Access, Question};
+use release_rules::{Others, Otherwise, Reason, Rule, Verdict};
+use std::alloc::{AllocError, Global};
+
+/// The line that says what the MDS of a release answers to the access to the inode with these names from the root down, and by which grant or
+/// rules, with the path in double quotes where it has to be; and a line for the grant by which the client itself refuses, where there is one.
+/// Each ends in a line feed. Only memory can be missing.
+pub fn mds_lines(
+    alloc: Global,
+    access: Access,
+    path: &[&[u8]],
+    verdict: &Verdict,
+    refused: Option<usize>,
+) -> Result<Vec<u8>, AllocError>
+    ensures { IfOk result (λ lines. lines.items ≡ mds_text access (map (λ name. name.now) path.now) verdict.now refused) }
+{
+    let mut lines = Vec::new(alloc);
+    print_mds_line(&mut lines, access, path, verdict)?;
+    lines.push(b'\n')?;
+    print_refused(&mut lines, refused)?;
+    Ok(lines)
+}
+
+// Appends what the MDS answers, without a line feed.
+fn print_mds_line(
+    text: &mut Vec<u8>,
+    access: Access,
+    path: &[&[u8]],
+    verdict: &Verdict,
+) -> Result<(), AllocError>
+    ensures { OnOk result (text.new.items ≡ text.old.items ++ mds_line access (map (λ name. name.now) path.now) verdict.now) }
+{
+    let outcome = outcome(verdict);
+    print(text, format_args!("{outcome}{access} "))?;
+    print_quoted_path(text, path)?;
+    print_mds_reason(text, verdict)
+}
+
+// What is said before the access.
+fn outcome(verdict: &Verdict) -> &'static str
+    ensures { result.now ≡ mds_outcome verdict.now }
+{
+    match verdict {
+        Verdict::Allowed { .. } => "allowed ",
+        Verdict::DependsOnAddress { .. } => "depends on the address: ",
+        Verdict::CannotMount | Verdict::Denied { .. } => "denied ",
+    }
+}
+
+// Appends by which grant or rules an MDS answers so, behind a space.
+fn print_mds_reason(text: &mut Vec<u8>, verdict: &Verdict) -> Result<(), AllocError>
+    ensures { OnOk result (text.new.items ≡ text.old.items ++ mds_reason verdict.now) }
+{
+    match verdict {
+        Verdict::CannotMount => print_str(text, " no grant lets the client mount"),
+        Verdict::Allowed { grant } | Verdict::DependsOnAddress { grant } => {
+            print_numbered(text, " grant ", *grant as u64)
+        }
+        Verdict::Denied { rules } => {
+            print_str(text, " ")?;
+            print_failures(text, rules.as_slice())
+        }
+    }
+}
+
+// Appends the rules by which the grants fail, the number of each grant from 1.
+fn print_failures(text: &mut Vec<u8>, rules: &[Rule]) -> Result<(), AllocError>
+    ensures { OnOk result (text.new.items ≡ text.old.items ++ mds_failures rules.now) }
+{
+    if rules.is_empty() {
+        print_str(text, "no grants")?;
+    }
+    for (place, rule) in rules.iter().enumerate() {
+        if place > 0 {
+            print_str(text, ", ")?;
+        }
+        print_failure(text, place + 1, *rule)?;
+    }
+    Ok(())
+}
+
+fn print_failure(text: &mut Vec<u8>, number: usize, rule: Rule) -> Result<(), AllocError>
+    ensures { OnOk result (text.new.items ≡ text.old.items ++ mds_failure (number, rule)) }
+{
+    let (rule_number, word) = (rule.number(), rule.word());
+    print(
+        text,
+        format_args!("grant {number} rule {rule_number} {word}"),
+    )
+}
+
+// Appends a line for the grant by which the client itself refuses to change attributes, where there is one.
+fn print_refused(text: &mut Vec<u8>, refused: Option<usize>) -> Result<(), AllocError>
+    ensures { OnOk result (text.new.items ≡ text.old.items ++ refused_line refused) }
+{
+    match refused {
+        Some(grant) => print(
+            text,
+            format_args!("the client itself refuses to change attributes (grant {grant})\n"),
+        ),
+        None => Ok(()),
+    }
+}
+
+// ---- where releases answer otherwise
+
+/// The lines of this server's answer, with what the grant of this number leaves to the client, and behind them a line for each answer that
+/// releases give otherwise. Only memory can be missing.
+pub fn beside_lines(
+    alloc: Global,
+    question: &Question<'_>,
+    answer: &capgrant::Verdict,
+    left: Option<u32>,
+    others: &Others,
+) -> Result<Vec<u8>, AllocError>
+    ensures { IfOk result (λ lines. lines.items ≡ beside_text question.now answer.now left others.now) }
+{
+    let mut lines = remarked_lines(alloc, question, answer, left, &None)?;
+    print_others(&mut lines, others)?;
+    Ok(lines)
+}
+
+// Appends a line for each answer that releases give otherwise, with the releases that give it and the reason.
+fn print_others(text: &mut Vec<u8>, others: &Others) -> Result<(), AllocError>
+    ensures { OnOk result (text.new.items ≡ text.old.items ++ others_lines others.now) }
+{
+    let alloc = *text.allocator();
+    let pacific = said(alloc, &others.pacific)?;
+    let reef = said(alloc, &others.reef)?;
+    let tentacle = said(alloc, &others.tentacle)?;
+    print_all_said(
+        text,
+        pacific.as_slice(),
+        reef.as_slice(),
+        tentacle.as_slice(),
+    )
+}
+
+// What is said behind the releases that answer so.
+fn said(alloc: Global, other: &Option<Otherwise>) -> Result<Vec<u8>, AllocError>
+    ensures { IfOk result (λ words. words.items ≡ said other.now) }
+{
+    let mut words = Vec::new(alloc);
+    if let Some(other) = other {
+        let (word, reason, grant) = (
+            said_word(other.allows),
+            words_for(other.reason),
+            other.grant,
+        );
+        print(&mut words, format_args!("{word}{reason} (grant {grant})\n"))?;
+    }
+    Ok(words)
+}
+
+fn said_word(allows: bool) -> &'static str
+    ensures { result.now ≡ said_word allows }
+{
+    if allows {
+        " allows this: "
+    } else {
+        " denies this: "
+    }
+}
+
+fn words_for(reason: Reason) -> &'static str
+    ensures { result.now ≡ reason_text reason }
+{
+    match reason {
+        Reason::OtherFileSystem => "a grant for another file system counts there after the mount",
+        Reason::ZeroUid => "uid=0 names nobody there",
+        Reason::LargeUid => "a grant with a uid of 2147483648 or more is for nobody there",
+        Reason::PathAsText => "a slash at the end of the path, or two side by side, count there",
+        Reason::AttributeByFlag => "a quota or a layout asks there for the flag p alone",
+        Reason::ModeByBits =>
+            "a change of the mode asks there for the mode bits of write, not for the owner",
+        Reason::GroupsInOrder =>
+            "a group of the caller's counts there only where no greater one stands before it",
+        Reason::OtherText => "the text of the grants is read otherwise there",
+    }
+}
+
+// Appends a line for each release of which something is said, and one for those that follow each other and of which the same is.
+fn print_all_said(
+    text: &mut Vec<u8>,
+    pacific: &[u8],
+    reef: &[u8],
+    tentacle: &[u8],
+) -> Result<(), AllocError>
+    ensures { OnOk result (text.new.items ≡ text.old.items ++ said_lines pacific.now reef.now tentacle.now) }
+{
+    if pacific == reef && reef == tentacle {
+        return print_said(text, "16, 18 and 20", pacific);
+    }
+    if pacific == reef {
+        print_said(text, "16 and 18", pacific)?;
+        return print_said(text, "20", tentacle);
+    }
+    print_said(text, "16", pacific)?;
+    if reef == tentacle {
+        return print_said(text, "18 and 20", reef);
+    }
+    print_said(text, "18", reef)?;
+    print_said(text, "20", tentacle)
+}
+
+// Appends a line for these releases, where something is said of them.
+fn print_said(text: &mut Vec<u8>, releases: &str, words: &[u8]) -> Result<(), AllocError>
+    ensures { OnOk result (text.new.items ≡ text.old.items ++ said_line releases.now words.now) }
+{
+    if words.is_empty() {
+        return Ok(());
+    }
+    print_str(text, "the MDS of Ceph ")?;
+    print_str(text, releases)?;
+    text.extend_from_slice(words)
+}
