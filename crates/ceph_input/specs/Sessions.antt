@@ -1,5 +1,5 @@
 -- The sessions of a cluster's clients.
-use Rattle.std.specs.Prelude.{ℕ, List, [], ◌++◌, codes, Option, unwrap_or, option_map, option_and_then, Result, Err}
+use Rattle.std.specs.Prelude.{ℕ, List, [], codes, Option, unwrap_or, option_map, option_and_then, Result, Err}
 use Rattle.serde_json.specs.Data.{Data, Items}
 use Rattle.serde_json.specs.Find.{as_array, get}
 use Rattle.ceph_input.specs.Auth.{json_of}
@@ -8,17 +8,13 @@ use Rattle.ceph_input.specs.declared.cluster_fault.ClusterFault.{ClusterFault}
 use Rattle.ceph_input.specs.declared.cluster_fault.ClusterFault.TheVariants.{BadItem, NoList}
 use Rattle.ceph_input.specs.Values.{number_at, text_at}
 
--- a session: its number, and the name of its client in the auth list, if it tells one
+-- a session: its number, and what its client calls itself, if it tells that
 pub record Connected : Type 0 where
   pub number : ℕ
-  pub client : Option (List ℕ)
+  pub entity : Option (List ℕ)
 
 abbrev pub connected : ℕ → Option (List ℕ) → Connected
-connected number client = record { number = number; client = client }
-
--- the auth list has `client.` before what a client calls itself
-abbrev pub client_name : List ℕ → List ℕ
-client_name entity = codes "client." ++ entity
+connected number entity = record { number = number; entity = entity }
 
 -- what the client of a session calls itself
 abbrev pub entity_in : Data → Option (List ℕ)
@@ -26,7 +22,7 @@ entity_in d = option_and_then (text_at (codes "entity_id")) (get (codes "client_
 
 -- the session that an item is: with a number at `id`
 abbrev pub session_of : Data → Option Connected
-session_of d = option_map (λ number. connected number (option_map client_name (entity_in d))) (number_at (codes "id") d)
+session_of d = option_map (λ number. connected number (entity_in d)) (number_at (codes "id") d)
 
 -- the sessions that the items are, behind those before; or the number of the first that is none
 abbrev pub sessions_from : List Connected → Items → Result (List Connected) ClusterFault

@@ -3,7 +3,7 @@
 ghost use Rattle.std.specs.Prelude.{◌≡◌, [], Some, IfOk, IfErr, Ok, option_map};
 ghost use Rattle.serde_json.specs.View.{items_view, view};
 ghost use Rattle.ceph_input.specs.Values.{IsFaultIn};
-ghost use Rattle.ceph_input.specs.Sessions.{client_name, entity_in, session_of, sessions_from, sessions_of};
+ghost use Rattle.ceph_input.specs.Sessions.{entity_in, session_of, sessions_from, sessions_of};
 
 use crate::cluster_fault::ClusterFault;
 use crate::values::{NoJson, number_at, read_json, text_at};
@@ -14,7 +14,7 @@ use std::marker::Model;
 /// The session of a client.
 pub struct Session {
     number: u64,
-    client: Option<Vec<u8>>,
+    entity: Option<Vec<u8>>,
 }
 
 // Not derived: so the proof of a function that drops one has a single call there.
@@ -22,7 +22,7 @@ impl Drop for Session {
     fn drop(self) {
         let Session {
             number: _,
-            client: _,
+            entity: _,
         } = self;
     }
 }
@@ -33,22 +33,22 @@ impl Model for Session {
 
     ghost Value = { Connected };
 
-    ghost view = { λ s. connected s.number (option_map (λ name. name.items) s.client) };
+    ghost view = { λ s. connected s.number (option_map (λ id. id.items) s.entity) };
 }
 
 impl Session {
     ghost use Rattle.std.specs.Prelude.{◌≡◌, IfOk, option_map};
-    ghost use Rattle.ceph_input.specs.Sessions.{client_name, connected};
+    ghost use Rattle.ceph_input.specs.Sessions.{connected};
 
     // The session with this number, whose client calls itself this.
     fn new(alloc: Global, number: u64, entity: Option<&str>) -> Result<Session, AllocError>
-        ensures { IfOk result (λ s. s ≡ connected number (option_map client_name (option_map (λ name. name.now) entity.entry))) }
+        ensures { IfOk result (λ s. s ≡ connected number (option_map (λ id. id.now) entity.entry)) }
     {
-        let client = match entity {
+        let entity = match entity {
             None => None,
-            Some(entity) => Some(client_name(alloc, entity)?),
+            Some(id) => Some(Vec::from_slice(alloc, id.as_bytes())?),
         };
-        Ok(Session { number, client })
+        Ok(Session { number, entity })
     }
 
     /// Its number, by which the tree names the client.
@@ -58,24 +58,15 @@ impl Session {
         self.number
     }
 
-    /// The name that its client has in the auth list, such as `client.tenant`, if it tells one.
-    pub fn client(&self) -> Option<&[u8]>
-        ensures { option_map (λ name. name.now) result ≡ self.now.client }
+    /// What its client calls itself, such as `tenant` for the client of the key of `client.tenant`, if it tells that.
+    pub fn entity(&self) -> Option<&[u8]>
+        ensures { option_map (λ id. id.now) result ≡ self.now.entity }
     {
-        match &self.client {
+        match &self.entity {
             None => None,
-            Some(name) => Some(name.as_slice()),
+            Some(id) => Some(id.as_slice()),
         }
     }
-}
-
-// The name in the auth list of a client that calls itself this.
-fn client_name(alloc: Global, entity: &str) -> Result<Vec<u8>, AllocError>
-    ensures { IfOk result (λ name. name.items ≡ client_name entity.now) }
-{
-    let mut name = Vec::from_slice(alloc, b"client.")?;
-    name.extend_from_slice(entity.as_bytes())?;
-    Ok(name)
 }
 
 /// The sessions that a text lists, in its order. Each has a number at `id`; its client calls itself what stands at

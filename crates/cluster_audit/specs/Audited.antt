@@ -12,7 +12,7 @@ use Rattle.capspec.specs.Faults.{IsFault}
 use Rattle.capspec.specs.Grants.{Reads}
 use Rattle.ceph_input.specs.Auth.{IsFaultOf, Named, auth_of}
 use Rattle.ceph_input.specs.Values.{IsFaultIn}
-use Rattle.ceph_input.specs.Sessions.{Connected, sessions_of}
+use Rattle.ceph_input.specs.Sessions.{sessions_of}
 use Rattle.ceph_input.specs.Dump.{Dump, Held, Listed, PathMap}
 use Rattle.cluster_audit.specs.declared.findings.Finding.{Finding}
 use Rattle.cluster_audit.specs.declared.conflict.Conflict.{Conflict}
@@ -20,6 +20,7 @@ use Rattle.cluster_audit.specs.declared.conflict.Holding.{Holding}
 use Rattle.cluster_audit.specs.Conflicts.{conflicts_of}
 use Rattle.cluster_audit.specs.Callers.{Inode, IsPermittedToSome, inode}
 use Rattle.cluster_audit.specs.Findings.{IsBeyond}
+use Rattle.cluster_audit.specs.Known.{AreKnown, Known}
 use Rattle.texts.specs.declared.shape.Shape.{Shape}
 use Rattle.texts.specs.Shapes.{nothing_in}
 use Rattle.cluster_audit.specs.declared.fault.HeldFault.{HeldFault}
@@ -34,32 +35,32 @@ use Rattle.cluster_audit.specs.Shaped.{bad_caps_in, conflict_in, counts_in, foun
 
 -- ---- who it is
 
--- the entities of the auth list, and the sessions
+-- the entities of the auth list, and the sessions by the names that it has
 pub record Roster : Type 0 where
   pub entities : List Named
-  pub sessions : List Connected
+  pub sessions : List Known
 
-abbrev pub roster : List Named → List Connected → Roster
+abbrev pub roster : List Named → List Known → Roster
 roster entities sessions = record { entities = entities; sessions = sessions }
 
 -- the same, and how is told what is found of them
 pub record Clients : Type 0 where
   pub manner : Manner
   pub entities : List Named
-  pub sessions : List Connected
+  pub sessions : List Known
 
-abbrev pub clients : Manner → List Named → List Connected → Clients
+abbrev pub clients : Manner → List Named → List Known → Clients
 clients manner entities sessions = record { manner = manner; entities = entities; sessions = sessions }
 
 abbrev pub clients_of : Manner → Roster → Clients
 clients_of manner known = clients manner known.entities known.sessions
 
 -- the first session of this number
-abbrev pub session_of : List Connected → ℕ → Option Connected
+abbrev pub session_of : List Known → ℕ → Option Known
 session_of sessions number = find (λ s. s.number == number) sessions
 
--- the name that it tells, if there is one and it tells any
-abbrev pub name_of : List Connected → ℕ → Option (List ℕ)
+-- the name of its client, if there is one and it tells any
+abbrev pub name_of : List Known → ℕ → Option (List ℕ)
 name_of sessions number = option_and_then (λ s. s.client) (session_of sessions number)
 
 -- ---- what is said of one who holds something
@@ -114,7 +115,7 @@ abbrev pub pathless_text : Shape → ℕ → Held → Option (List ℕ) → List
 pathless_text shape number h None = unnamed_in shape h.client
 pathless_text shape number h (Some client) = pathless_in shape number client h.client h.issued
 
-abbrev pub pathless_of : Shape → List Connected → ℕ → Held → List ℕ
+abbrev pub pathless_of : Shape → List Known → ℕ → Held → List ℕ
 pathless_of shape sessions number h = pathless_text shape number h (name_of sessions h.client)
 
 -- of an inode: of each who holds something of it, on the path that leads to it; or that none does
@@ -142,11 +143,11 @@ Holds h known = ((caps : Caps) × (h.issued ≡ text_of caps) × (known ≡ reco
     ⊎ (((caps : Caps) → h.issued ≡ text_of caps → ⊥) × (known ≡ []))
 
 -- two sessions in conflict on the inode of this number, to which a path may lead, by the names that they tell
-abbrev pub conflict_at : Manner → List Connected → ℕ → Option (List (List ℕ)) → Conflict → List ℕ
+abbrev pub conflict_at : Manner → List Known → ℕ → Option (List (List ℕ)) → Conflict → List ℕ
 conflict_at m sessions number path c = conflict_in m number path (name_of sessions c.one.client) (name_of sessions c.other.client) c
 
 -- of an inode a line for each pair that holds of it what the table of the locks keeps apart
-abbrev pub SaysOfPairs : Manner → List Connected → PathMap → Listed → List ℕ → Type 0
+abbrev pub SaysOfPairs : Manner → List Known → PathMap → Listed → List ℕ → Type 0
 SaysOfPairs m sessions paths it text = (holdings : List Holding) × Give Holds it.holders holdings
     × (text ≡ flat_map (conflict_at m sessions it.number (map.get paths it.number)) (conflicts_of holdings))
 
@@ -180,7 +181,7 @@ pub record IsReport (fs : List ℕ) (known : Clients) (seen : Dump) (text : List
 
 -- two texts mean an auth list and sessions, and these are the clients of the cluster
 abbrev pub AreClients : List ℕ → List ℕ → Roster → Type 0
-AreClients auth sessions known = (auth_of auth ≡ Some (Ok known.entities)) × (sessions_of sessions ≡ Some (Ok known.sessions))
+AreClients auth sessions known = (auth_of auth ≡ Some (Ok known.entities)) × AreKnown known.entities sessions known.sessions
 
 -- the text means an auth list
 abbrev pub IsAuthList : List ℕ → Type 0

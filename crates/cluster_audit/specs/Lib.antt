@@ -5,6 +5,7 @@ pub mod Reported
 pub mod Instead
 pub mod Order
 pub mod Summary
+pub mod Known
 pub mod Audited
 pub mod Callers
 pub mod Findings

@@ -3,14 +3,15 @@ ghost use Rattle.std.specs.Prelude.{◌≡◌, option_map};
 ghost use Rattle.cluster_audit.specs.Audited.{session_of};
 
 use crate::fault::HeldFault;
-use ceph_input::{AuthList, Entity, Session, read_auth, read_sessions};
-use std::alloc::Global;
+use crate::known::{KnownSession, known_sessions};
+use ceph_input::{AuthList, ClusterFault, Entity, read_auth, read_sessions};
+use std::alloc::{AllocError, Global};
 use std::marker::Model;
 
 /// The auth list of a cluster, and the sessions of a metadata server.
 pub struct ClusterClients {
     auth: AuthList,
-    sessions: Vec<Session>,
+    sessions: Vec<KnownSession>,
 }
 
 // Not derived: so the proof of a function that drops one has a single call there.
@@ -36,24 +37,28 @@ impl ClusterClients {
     ghost use Rattle.cluster_audit.specs.Audited.{AreClients, IsFaultOfClients, name_of};
 
     /// The clients that two texts mean: the auth list, as `ceph auth ls -f json` prints it, and the sessions, as `ceph tell mds.N
-    /// session ls` does. The fault is that of the first text that is none.
+    /// session ls` does. Who calls itself `x` is `client.x`, or `mgr.x` where the list has that alone. The fault is that of the first
+    /// text that is none.
     pub fn read(alloc: Global, auth: &[u8], sessions: &[u8]) -> Result<ClusterClients, HeldFault>
         ensures ok { IfOk result (AreClients auth.now sessions.now) }
         ensures err { IfErr result (IsFaultOfClients auth.now sessions.now) }
     {
         let auth = read_auth(alloc, auth).map_err(HeldFault::Auth)?;
         let sessions = read_sessions(alloc, sessions).map_err(HeldFault::Sessions)?;
-        Ok(ClusterClients { auth, sessions })
+        match known_sessions(alloc, &auth, sessions.as_slice()) {
+            Ok(sessions) => Ok(ClusterClients { auth, sessions }),
+            Err(AllocError) => Err(HeldFault::Sessions(ClusterFault::NoMemory)),
+        }
     }
 
     // The sessions, in the order of their text.
-    pub(crate) fn sessions(&self) -> &[Session]
+    pub(crate) fn sessions(&self) -> &[KnownSession]
         ensures { result.now ≡ self.now.sessions }
     {
         self.sessions.as_slice()
     }
 
-    // The name that the session of this number tells.
+    // The name of the client in the session of this number.
     pub(crate) fn name_of(&self, session: u64) -> Option<&[u8]>
         ensures { option_map (λ name. name.now) result ≡ name_of self.now.sessions session }
     {
@@ -69,7 +74,7 @@ impl ClusterClients {
 }
 
 // The first session of this number.
-fn session_of(sessions: &[Session], number: u64) -> Option<&Session>
+fn session_of(sessions: &[KnownSession], number: u64) -> Option<&KnownSession>
     ensures { option_map (λ s. s.now) result ≡ session_of sessions.now number }
 {
     sessions.iter().find(|session| session.number() == number)

@@ -15,6 +15,7 @@ mod findings;
 mod held;
 mod holders;
 mod inode;
+mod known;
 mod laws;
 mod lines;
 mod notes;

@@ -5,9 +5,10 @@ ghost use Rattle.cluster_audit.specs.Objects.{counts_object};
 ghost use Rattle.cluster_audit.specs.Shaped.{counts_in};
 ghost use Rattle.cluster_audit.specs.Summary.{counts_of, entry_count, line_count};
 
+use crate::known::KnownSession;
 use crate::notes::Notes;
 use capbits::{print_numbered, print_str};
-use ceph_input::{Session, TreeInode};
+use ceph_input::TreeInode;
 use std::alloc::{AllocError, Global};
 use texts::{Piece, Shape, print_pieces};
 
@@ -26,7 +27,7 @@ struct Counts {
 pub(crate) fn summary_line(
     alloc: Global,
     shape: Shape,
-    sessions: &[Session],
+    sessions: &[KnownSession],
     inodes: &[TreeInode],
     notes: &Notes,
     conflicts: &[u8],

@@ -6,7 +6,7 @@ use Rattle.cluster_audit.specs.declared.conflict.Conflict.{Conflict}
 use Rattle.cluster_audit.specs.declared.conflict.Holding.{Holding}
 use Rattle.cluster_audit.specs.Conflicts.{conflicts_of}
 use Rattle.ceph_input.specs.Dump.{Held, Listed, PathMap}
-use Rattle.ceph_input.specs.Sessions.{Connected}
+use Rattle.cluster_audit.specs.Known.{Known}
 use Rattle.cluster_audit.specs.declared.notes.Manner.{Manner}
 use Rattle.cluster_audit.specs.Audited.{AddsTo, Give, Holds, SaysOfPairs, conflict_at}
 use Rattle.cluster_audit.proofs.pairs.print_pairs.Goals as goal
@@ -15,7 +15,7 @@ abbrev names_of : List (Bor (List ℕ)) → List (List ℕ)
 names_of names = map (λ name. name.now) names
 
 -- the lines for the conflicts among holdings are those of the inode
-module _ (m : Manner) (sessions : List Connected) (known : PathMap) (it : Listed) where
+module _ (m : Manner) (sessions : List Known) (known : PathMap) (it : Listed) where
   pub of_inode : (number : ℕ) (path : Option (List (List ℕ))) (holders : List Held) (holdings : List Holding) (found : List Conflict) (old new : List ℕ) → number ≡ it.number → holders ≡ it.holders → Give Holds holders holdings
       → path ≡ paths.get known number → found ≡ conflicts_of holdings → new ≡ old ++ flat_map (conflict_at m sessions number path) found → AddsTo (SaysOfPairs m sessions known it) old new
   of_inode number path holders holdings found old new is_number are_holders given leads are more = (

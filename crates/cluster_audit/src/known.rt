@@ -1,0 +1,111 @@
+//! Sessions by the names that the auth list has of their clients.
+ghost use Rattle.std.specs.Prelude.{◌≡◌, ◌++◌, IfOk, map};
+ghost use Rattle.cluster_audit.specs.Known.{is_listed, known_as, name_in};
+
+use ceph_input::{AuthList, Session};
+use std::alloc::{AllocError, Global};
+use std::marker::Model;
+
+// A session, with the name that the auth list has of its client.
+pub(crate) struct KnownSession {
+    number: u64,
+    client: Option<Vec<u8>>,
+}
+
+// Not derived: so the proof of a function that drops one has a single call there.
+impl Drop for KnownSession {
+    fn drop(self) {
+        let KnownSession {
+            number: _,
+            client: _,
+        } = self;
+    }
+}
+
+impl Model for KnownSession {
+    ghost use Rattle.std.specs.Prelude.{option_map};
+    ghost use Rattle.cluster_audit.specs.Known.{Known, known};
+
+    ghost Value = { Known };
+
+    ghost view = { λ s. known s.number (option_map (λ name. name.items) s.client) };
+}
+
+impl KnownSession {
+    ghost use Rattle.std.specs.Prelude.{◌≡◌, IfOk, option_map};
+    ghost use Rattle.cluster_audit.specs.Known.{known_as};
+
+    // A session as the list knows it.
+    fn read(alloc: Global, auth: &AuthList, session: &Session) -> Result<KnownSession, AllocError>
+        ensures { IfOk result (λ s. s ≡ known_as auth.now session.now) }
+    {
+        let client = match session.entity() {
+            None => None,
+            Some(id) => Some(name_in(alloc, auth, id)?),
+        };
+        Ok(KnownSession {
+            number: session.number(),
+            client,
+        })
+    }
+
+    // Its number, by which the tree names the client.
+    pub(crate) fn number(&self) -> u64
+        ensures { result ≡ self.now.number }
+    {
+        self.number
+    }
+
+    // The name of its client, such as `client.tenant`, if it tells one.
+    pub(crate) fn client(&self) -> Option<&[u8]>
+        ensures { option_map (λ name. name.now) result ≡ self.now.client }
+    {
+        match &self.client {
+            None => None,
+            Some(name) => Some(name.as_slice()),
+        }
+    }
+}
+
+// The sessions as the list knows them.
+pub(crate) fn known_sessions(
+    alloc: Global,
+    auth: &AuthList,
+    sessions: &[Session],
+) -> Result<Vec<KnownSession>, AllocError>
+    ensures { IfOk result (λ known. known.items ≡ map (known_as auth.now) sessions.now) }
+{
+    let mut known = Vec::new(alloc);
+    for session in sessions {
+        known.push(KnownSession::read(alloc, auth, session)?)?;
+    }
+    Ok(known)
+}
+
+// The name of who calls itself this: of a client, or of a manager where the list has such a one and no client.
+fn name_in(alloc: Global, auth: &AuthList, id: &[u8]) -> Result<Vec<u8>, AllocError>
+    ensures { IfOk result (λ name. name.items ≡ name_in auth.now id.now) }
+{
+    let client = named(alloc, b"client.", id)?;
+    let manager = named(alloc, b"mgr.", id)?;
+    if !is_listed(auth, client.as_slice()) && is_listed(auth, manager.as_slice()) {
+        Ok(manager)
+    } else {
+        Ok(client)
+    }
+}
+
+// A name of this kind.
+fn named(alloc: Global, kind: &[u8], id: &[u8]) -> Result<Vec<u8>, AllocError>
+    ensures { IfOk result (λ name. name.items ≡ kind.now ++ id.now) }
+{
+    let mut name = Vec::from_slice(alloc, kind)?;
+    name.extend_from_slice(id)?;
+    Ok(name)
+}
+
+fn is_listed(auth: &AuthList, name: &[u8]) -> bool
+    ensures { result ≡ is_listed auth.now name.now }
+{
+    auth.find(name).is_some()
+}
