@@ -8,13 +8,29 @@ use Rattle.ceph_input.specs.declared.cluster_fault.ClusterFault.{ClusterFault}
 use Rattle.ceph_input.specs.declared.cluster_fault.ClusterFault.TheVariants.{BadItem, NoList}
 use Rattle.ceph_input.specs.Values.{number_at, text_at}
 
--- a session: its number, and what its client calls itself, if it tells that
+-- a key: what it is the key of, such as `client`, and its name
+pub record KeyName : Type 0 where
+  pub kind : List ℕ
+  pub id : List ℕ
+
+abbrev pub key_of : List ℕ → List ℕ → KeyName
+key_of kind id = record { kind = kind; id = id }
+
+-- a session: its number, the key by which its client was let in, and what it calls itself, where these are told
 pub record Connected : Type 0 where
   pub number : ℕ
+  pub key : Option KeyName
   pub entity : Option (List ℕ)
 
-abbrev pub connected : ℕ → Option (List ℕ) → Connected
-connected number entity = record { number = number; entity = entity }
+abbrev pub connected : ℕ → Option KeyName → Option (List ℕ) → Connected
+connected number key entity = record { number = number; key = key; entity = entity }
+
+-- the key that stands at `auth_name`
+abbrev pub key_at : Data → Option KeyName
+key_at d = option_and_then (λ kind. option_map (key_of kind) (text_at (codes "id") d)) (text_at (codes "type_str") d)
+
+abbrev pub key_in : Data → Option KeyName
+key_in d = option_and_then key_at (get (codes "auth_name") d)
 
 -- what the client of a session calls itself
 abbrev pub entity_in : Data → Option (List ℕ)
@@ -22,7 +38,7 @@ entity_in d = option_and_then (text_at (codes "entity_id")) (get (codes "client_
 
 -- the session that an item is: with a number at `id`
 abbrev pub session_of : Data → Option Connected
-session_of d = option_map (λ number. connected number (entity_in d)) (number_at (codes "id") d)
+session_of d = option_map (λ number. connected number (key_in d) (entity_in d)) (number_at (codes "id") d)
 
 -- the sessions that the items are, behind those before; or the number of the first that is none
 abbrev pub sessions_from : List Connected → Items → Result (List Connected) ClusterFault

@@ -6,6 +6,7 @@ ghost use Rattle.ceph_input.specs.Values.{IsFaultIn};
 ghost use Rattle.ceph_input.specs.Sessions.{entity_in, session_of, sessions_from, sessions_of};
 
 use crate::cluster_fault::ClusterFault;
+use crate::key::{Key, read_key};
 use crate::values::{NoJson, number_at, read_json, text_at};
 use serde_json::Value;
 use std::alloc::{AllocError, Global};
@@ -14,6 +15,7 @@ use std::marker::Model;
 /// The session of a client.
 pub struct Session {
     number: u64,
+    key: Option<Key>,
     entity: Option<Vec<u8>>,
 }
 
@@ -22,6 +24,7 @@ impl Drop for Session {
     fn drop(self) {
         let Session {
             number: _,
+            key: _,
             entity: _,
         } = self;
     }
@@ -33,22 +36,31 @@ impl Model for Session {
 
     ghost Value = { Connected };
 
-    ghost view = { λ s. connected s.number (option_map (λ id. id.items) s.entity) };
+    ghost view = { λ s. connected s.number s.key (option_map (λ id. id.items) s.entity) };
 }
 
 impl Session {
     ghost use Rattle.std.specs.Prelude.{◌≡◌, IfOk, option_map};
     ghost use Rattle.ceph_input.specs.Sessions.{connected};
 
-    // The session with this number, whose client calls itself this.
-    fn new(alloc: Global, number: u64, entity: Option<&str>) -> Result<Session, AllocError>
-        ensures { IfOk result (λ s. s ≡ connected number (option_map (λ id. id.now) entity.entry)) }
+    // The session with this number, of a client that was let in by this key and calls itself this.
+    fn new(
+        alloc: Global,
+        number: u64,
+        key: Option<Key>,
+        entity: Option<&str>,
+    ) -> Result<Session, AllocError>
+        ensures { IfOk result (λ s. s ≡ connected number key (option_map (λ id. id.now) entity.entry)) }
     {
         let entity = match entity {
             None => None,
             Some(id) => Some(Vec::from_slice(alloc, id.as_bytes())?),
         };
-        Ok(Session { number, entity })
+        Ok(Session {
+            number,
+            key,
+            entity,
+        })
     }
 
     /// Its number, by which the tree names the client.
@@ -56,6 +68,13 @@ impl Session {
         ensures { result ≡ self.now.number }
     {
         self.number
+    }
+
+    /// The key by which its client was let in, where the metadata server tells it. No client can choose another.
+    pub fn key(&self) -> Option<&Key>
+        ensures { option_map (λ key. key.now) result ≡ self.now.key }
+    {
+        self.key.as_ref()
     }
 
     /// What its client calls itself, such as `tenant` for the client of the key of `client.tenant`, if it tells that.
@@ -69,8 +88,8 @@ impl Session {
     }
 }
 
-/// The sessions that a text lists, in its order. Each has a number at `id`; its client calls itself what stands at
-/// `client_metadata.entity_id`. The fault is the first thing that is wrong, or want of memory.
+/// The sessions that a text lists, in its order. Each has a number at `id`; its client was let in by the key of the kind at
+/// `auth_name.type_str` and the name at `auth_name.id`, and calls itself what stands at `client_metadata.entity_id`. The fault is the first thing that is wrong, or want of memory.
 pub fn read_sessions(alloc: Global, text: &[u8]) -> Result<Vec<Session>, ClusterFault>
     ensures ok { IfOk result (λ sessions. sessions_of text.now ≡ Some (Ok sessions.items)) }
     ensures err { IfErr result (λ fault. IsFaultIn fault (sessions_of text.now)) }
@@ -111,7 +130,8 @@ fn read_session(alloc: Global, item: &Value) -> Result<Option<Session>, AllocErr
     let Some(number) = number_at(item, "id") else {
         return Ok(None);
     };
-    Ok(Some(Session::new(alloc, number, entity_in(item))?))
+    let key = read_key(alloc, item)?;
+    Ok(Some(Session::new(alloc, number, key, entity_in(item))?))
 }
 
 // What the client of a session calls itself.

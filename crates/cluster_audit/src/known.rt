@@ -1,6 +1,6 @@
 //! Sessions by the names that the auth list has of their clients.
-ghost use Rattle.std.specs.Prelude.{◌≡◌, ◌++◌, IfOk, map};
-ghost use Rattle.cluster_audit.specs.Known.{is_listed, known_as, name_in};
+ghost use Rattle.std.specs.Prelude.{◌≡◌, IfOk, map};
+ghost use Rattle.cluster_audit.specs.Known.{is_listed, key_name, known_as, name_in};
 
 use ceph_input::{AuthList, Session};
 use std::alloc::{AllocError, Global};
@@ -39,9 +39,10 @@ impl KnownSession {
     fn read(alloc: Global, auth: &AuthList, session: &Session) -> Result<KnownSession, AllocError>
         ensures { IfOk result (λ s. s ≡ known_as auth.now session.now) }
     {
-        let client = match session.entity() {
-            None => None,
-            Some(id) => Some(name_in(alloc, auth, id)?),
+        let client = match (session.key(), session.entity()) {
+            (Some(key), _) => Some(named(alloc, key.kind(), key.id())?),
+            (None, Some(id)) => Some(name_in(alloc, auth, id)?),
+            (None, None) => None,
         };
         Ok(KnownSession {
             number: session.number(),
@@ -82,12 +83,12 @@ pub(crate) fn known_sessions(
     Ok(known)
 }
 
-// The name of who calls itself this: of a client, or of a manager where the list has such a one and no client.
+// The name of who calls itself this, where no key is told: of a client, or of a manager where the list has such a one and no client.
 fn name_in(alloc: Global, auth: &AuthList, id: &[u8]) -> Result<Vec<u8>, AllocError>
     ensures { IfOk result (λ name. name.items ≡ name_in auth.now id.now) }
 {
-    let client = named(alloc, b"client.", id)?;
-    let manager = named(alloc, b"mgr.", id)?;
+    let client = named(alloc, b"client", id)?;
+    let manager = named(alloc, b"mgr", id)?;
     if !is_listed(auth, client.as_slice()) && is_listed(auth, manager.as_slice()) {
         Ok(manager)
     } else {
@@ -95,11 +96,12 @@ fn name_in(alloc: Global, auth: &AuthList, id: &[u8]) -> Result<Vec<u8>, AllocEr
     }
 }
 
-// A name of this kind.
+// The name of a key of this kind.
 fn named(alloc: Global, kind: &[u8], id: &[u8]) -> Result<Vec<u8>, AllocError>
-    ensures { IfOk result (λ name. name.items ≡ kind.now ++ id.now) }
+    ensures { IfOk result (λ name. name.items ≡ key_name kind.now id.now) }
 {
     let mut name = Vec::from_slice(alloc, kind)?;
+    name.push(b'.')?;
     name.extend_from_slice(id)?;
     Ok(name)
 }
