@@ -45,14 +45,15 @@ holders_in d = option_and_then (holders_from []) (items_at (codes "client_caps")
 
 -- ---- inodes
 
--- an inode: its number, its owner, group and mode, and who holds something of it
+-- an inode: its number, its owner, group and mode, the names that led to it before it was unlinked, if it was, and who holds something of it
 pub record Listed : Type 0 where
   pub number : ℕ
   pub attr : Attr
+  pub prior : Option (List (List ℕ))
   pub holders : List Held
 
-abbrev pub listed : ℕ → Attr → List Held → Listed
-listed number attr holders = record { number = number; attr = attr; holders = holders }
+abbrev pub listed : ℕ → Attr → Option (List (List ℕ)) → List Held → Listed
+listed number attr prior holders = record { number = number; attr = attr; prior = prior; holders = holders }
 
 -- the twelve low bits of the mode are those that rules look at; above them stands the kind of the inode
 abbrev pub attr_with : ℕ → ℕ → ℕ → Attr
@@ -61,8 +62,15 @@ attr_with uid gid mode = record { uid = uid; gid = gid; mode = mode % 0o10000 }
 abbrev pub attr_in : Data → Option Attr
 attr_in d = option_and_then (λ uid. option_and_then (λ gid. option_map (attr_with uid gid) (number_at (codes "mode") d)) (id_at (codes "gid") d)) (id_at (codes "uid") d)
 
+-- a text of no byte tells no path
+abbrev pub names_or_none : List ℕ → Option (List (List ℕ))
+names_or_none text = if length text == 0 then None else Some (names_of text)
+
+abbrev pub prior_in : Data → Option (List (List ℕ))
+prior_in d = option_and_then names_or_none (text_at (codes "stray_prior_path") d)
+
 abbrev pub inode_of : Data → Option Listed
-inode_of d = option_and_then (λ number. option_and_then (λ attr. option_map (listed number attr) (holders_in d)) (attr_in d)) (number_at (codes "ino") d)
+inode_of d = option_and_then (λ number. option_and_then (λ attr. option_map (listed number attr (prior_in d)) (holders_in d)) (attr_in d)) (number_at (codes "ino") d)
 
 -- ---- paths
 

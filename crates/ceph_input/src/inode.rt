@@ -2,12 +2,13 @@
 
 ghost use Rattle.std.specs.Prelude.{◌≡◌, ◌%◌, IfOk};
 ghost use Rattle.serde_json.specs.View.{view};
-ghost use Rattle.ceph_input.specs.Dump.{attr_in, inode_of};
+ghost use Rattle.ceph_input.specs.Dump.{attr_in, inode_of, prior_in};
 
 use crate::holder::{Holder, read_holders};
-use crate::values::{id_at, items_at, number_at};
+use crate::values::{id_at, items_at, number_at, text_at};
 use capbits::Mode;
 use capgrant::Attr;
+use capspec::TreePath;
 use serde_json::Value;
 use std::alloc::{AllocError, Global};
 use std::marker::Model;
@@ -16,6 +17,7 @@ use std::marker::Model;
 pub struct TreeInode {
     number: u64,
     attr: Attr,
+    prior: Option<TreePath>,
     holders: Vec<Holder>,
 }
 
@@ -25,6 +27,7 @@ impl Drop for TreeInode {
         let TreeInode {
             number: _,
             attr: _,
+            prior: _,
             holders: _,
         } = self;
     }
@@ -35,11 +38,11 @@ impl Model for TreeInode {
 
     ghost Value = { Listed };
 
-    ghost view = { λ i. listed i.number i.attr i.holders.items };
+    ghost view = { λ i. listed i.number i.attr i.prior i.holders.items };
 }
 
 impl TreeInode {
-    ghost use Rattle.std.specs.Prelude.{◌≡◌};
+    ghost use Rattle.std.specs.Prelude.{◌≡◌, option_map};
 
     /// Its number.
     pub fn number(&self) -> u64
@@ -53,6 +56,13 @@ impl TreeInode {
         ensures { result.now ≡ self.now.attr }
     {
         &self.attr
+    }
+
+    /// The path that it had before it was unlinked, if it was. By that the metadata server judges it.
+    pub fn prior_path(&self) -> Option<&TreePath>
+        ensures { option_map (λ path. path.now) result ≡ self.now.prior }
+    {
+        self.prior.as_ref()
     }
 
     /// Who holds something of it, in the order of the text.
@@ -79,11 +89,27 @@ pub(crate) fn read_inode(alloc: Global, item: &Value) -> Result<Option<TreeInode
     let Some(holders) = read_holders(alloc, items)? else {
         return Ok(None);
     };
+    let prior = read_prior_path(alloc, item)?;
     Ok(Some(TreeInode {
         number,
         attr,
+        prior,
         holders,
     }))
+}
+
+// The path that an item had before it was unlinked.
+fn read_prior_path(alloc: Global, item: &Value) -> Result<Option<TreePath>, AllocError>
+    ensures { IfOk result (λ path. path ≡ prior_in (view item.now)) }
+{
+    let Some(text) = text_at(item, "stray_prior_path") else {
+        return Ok(None);
+    };
+    let path = text.as_bytes();
+    if path.is_empty() {
+        return Ok(None);
+    }
+    Ok(Some(TreePath::from_text(alloc, path)?))
 }
 
 // The owner, the group and the mode of an item.

@@ -68,7 +68,7 @@ by_word first colon other = cond (first == 104) 4 (cond (first == 110) 6 (cond (
 
 -- of one whose second word is a number
 abbrev by_number : ℕ → ℕ → ℕ → ℕ → ℕ
-by_number start letter second third = cond (start == 103) 2 (cond (start == 99) (cond (second == 104) 4 5) (cond (start == 105) (cond (letter == 115) 11 (cond (third == 112) 9 3)) 0))
+by_number start letter second third = cond (start == 103) 2 (cond (start == 99) (cond (second == 104) 4 5) (cond (start == 105) (cond (letter == 115) 11 (cond (third == 112) 9 (cond (third == 106) 13 3))) (cond (start == 115) 12 0)))
 
 abbrev number_of : List ℕ → ℕ
 number_of text = by_number (opening text) (sixth text) (leading (behind (behind text))) (leading (word_3 text))
@@ -204,14 +204,14 @@ of_pathless n s small =
     at_number text n (codes ": no path: " ++ s) small refl refl ∙ looked
 
 -- what holds something there leads on to a session or to a number
-third_word : (n : ℕ) (name : Option (List ℕ)) (s : List ℕ) → n < 2 ^ 64 → (k : ℕ) → cond (leading (behind (holder_text Each n name ++ s)) == 112) k 3 ≡ 3
-third_word n None s small k =
+third_word : (n : ℕ) (name : Option (List ℕ)) (s : List ℕ) → n < 2 ^ 64 → (k l : ℕ) → cond (leading (behind (holder_text Each n name ++ s)) == 112) k (cond (leading (behind (holder_text Each n name ++ s)) == 106) l 3) ≡ 3
+third_word n None s small k l =
     let is : leading (behind (holder_text Each n None ++ s)) ≡ 48 = leading_digit n s small in
-    λ i. cond (is i == 112) k 3
-third_word n (Some client) s small k =
+    λ i. cond (is i == 112) k (cond (is i == 106) l 3)
+third_word n (Some client) s small k l =
     let is : leading (behind (holder_text Each n (Some client) ++ s)) ≡ 115 =
     ap (λ (w : List ℕ). leading (behind w)) (append_assoc (quoted client) (codes " session " ++ decimal n) s) ∙ ap leading (past_quoted client (codes " session " ++ (decimal n ++ s))) in
-    λ i. cond (is i == 112) k 3
+    λ i. cond (is i == 112) k (cond (is i == 106) l 3)
 
 pub on_number : (m n : ℕ) (name : Option (List ℕ)) (s : List ℕ) → m < 2 ^ 64 → n < 2 ^ 64 → kind_of (codes "inode " ++ (decimal m ++ 32 ∷ (holder_text Each n name ++ s))) ≡ 3
 on_number m n name s small also =
@@ -219,8 +219,21 @@ on_number m n name s small also =
     let text : List ℕ = codes "inode " ++ (decimal m ++ 32 ∷ rest) in
     let two : behind (behind text) ≡ rest = past_number m (32 ∷ rest) small in
     let three : leading (word_3 text) ≡ leading (behind rest) = ap (λ (w : List ℕ). leading (behind w)) two in
-    let looked : number_of text ≡ cond (leading (behind rest) == 112) 9 3 = λ i. by_number 105 32 (leading (behind (behind text))) (three i) in
-    at_number text m (32 ∷ rest) small refl refl ∙ looked ∙ third_word n name s also 9
+    let looked : number_of text ≡ cond (leading (behind rest) == 112) 9 (cond (leading (behind rest) == 106) 13 3) = λ i. by_number 105 32 (leading (behind (behind text))) (three i) in
+    at_number text m (32 ∷ rest) small refl refl ∙ looked ∙ third_word n name s also 9 13
+
+-- ---- names, and inodes that were unlinked
+
+pub of_unlinked : (n : ℕ) (s : List ℕ) → n < 2 ^ 64 → kind_of (codes "inode " ++ (decimal n ++ (codes ": unlinked, judged as " ++ s))) ≡ 13
+of_unlinked n s small =
+    let text : List ℕ = codes "inode " ++ (decimal n ++ (codes ": unlinked, judged as " ++ s)) in
+    let two : behind (behind text) ≡ codes "unlinked, judged as " ++ s = past_number n (codes ": unlinked, judged as " ++ s) small in
+    let third : leading (word_3 text) ≡ 106 = ap (λ (w : List ℕ). leading (behind w)) two in
+    let looked : number_of text ≡ 13 = λ i. by_number 105 32 (leading (behind (behind text))) (third i) in
+    at_number text n (codes ": unlinked, judged as " ++ s) small refl refl ∙ looked
+
+pub of_renamed : (n : ℕ) (s : List ℕ) → n < 2 ^ 64 → kind_of (codes "session " ++ (decimal n ++ (codes ": " ++ s))) ≡ 12
+of_renamed n s small = at_number (codes "session " ++ (decimal n ++ (codes ": " ++ s))) n (codes ": " ++ s) small refl refl
 
 -- ---- who could not be judged
 

@@ -1,13 +1,12 @@
 -- What is said where it is known who holds something, and where.
 use Rattle.std.proofs.Common.{◌≡◌, ℕ, Some, None, List, [], refl, subst}
-use Rattle.std.specs.FinMap as map
 use Rattle.std.specs.List.{flat_map}
 use Rattle.std.specs.Prelude.{bytes_eq, find}
 use Rattle.capgrant.specs.declared.access.Attr.{Attr}
 use Rattle.ceph_input.specs.Auth.{Named}
 use Rattle.ceph_input.specs.Dump.{Held, Listed, PathMap}
 use Rattle.cluster_audit.specs.Callers.{Inode, inode}
-use Rattle.cluster_audit.specs.Audited.{AreReports, Clients, IsJudged, SaysOf, SaysOfInode, name_of, pathless_of}
+use Rattle.cluster_audit.specs.Audited.{AreReports, Clients, IsJudged, SaysOf, SaysOfInode, name_of, path_of, pathless_of}
 use Rattle.cluster_audit.specs.Shaped.{unlisted_in, unnamed_in}
 
 pub unnamed : (known : Clients) (number : ℕ) (i : Inode) (h : Held) → name_of known.sessions h.client ≡ None → SaysOf known number i h [] (unnamed_in known.manner.shape h.client)
@@ -21,10 +20,10 @@ module _ (known : Clients) (number : ℕ) (i : Inode) (h : Held) (client : List 
   without_caps e listed none found unknown judged = rw (is, listed, none) judged
 
 module _ (fs : List ℕ) (known : Clients) (paths : PathMap) (it : Listed) where
-  pub without_path : map.get paths it.number ≡ None → SaysOfInode fs known paths it [] (flat_map (pathless_of known.manner.shape known.sessions it.number) it.holders)
+  pub without_path : path_of paths it ≡ None → SaysOfInode fs known paths it [] (flat_map (pathless_of known.manner.shape known.sessions it.number) it.holders)
   without_path none = rw none (refl, refl)
 
-  pub at_path : (number : ℕ) (path names : List (List ℕ)) (attr : Attr) (holders : List Held) → number ≡ it.number → map.get paths it.number ≡ Some path → names ≡ path → attr ≡ it.attr → holders ≡ it.holders
+  pub at_path : (number : ℕ) (path names : List (List ℕ)) (attr : Attr) (holders : List Held) → number ≡ it.number → path_of paths it ≡ Some path → names ≡ path → attr ≡ it.attr → holders ≡ it.holders
       → (found unknown : List ℕ) → AreReports (SaysOf known number (inode fs names attr)) holders found unknown → SaysOfInode fs known paths it found unknown
   at_path number path names attr holders is_number leads are_names is_attr are_holders found unknown reports =
       rw leads (

@@ -24,7 +24,7 @@ use Rattle.cluster_audit.specs.Reported.{AllTellTheSame, AreCounts, HasNumbers, 
 use Rattle.cluster_audit.specs.Reported as reported
 use Rattle.cluster_audit.proofs.Words.{before_why, is_digit, no_number, number, one_caps, one_revoked, one_why}
 use Rattle.cluster_audit.proofs.Spaces.{behind, past_quoted}
-use Rattle.cluster_audit.proofs.Openings.{kind_of, none, of_bad_caps, of_conflict_text, of_group, of_held, of_nothing, of_pathless, of_summary, of_unlisted}
+use Rattle.cluster_audit.proofs.Openings.{kind_of, none, of_bad_caps, of_conflict_text, of_group, of_held, of_nothing, of_pathless, of_renamed, of_summary, of_unlinked, of_unlisted}
 use Rattle.cluster_audit.proofs.Openings.{of_unnamed, of_unread, on_number, on_path, opening, opening_path, place_is, plain_fault}
 
 -- ---- a line and what stands behind it, part by part
@@ -58,6 +58,8 @@ laid (reported.held k p c n i x f) s = place_text p c n ++ (codes " holds " ++ (
 laid (reported.group c f n) s = why_text f.missing f.rules ++ 32 ∷ (quoted c ++ (codes ": " ++ (decimal n ++ 10 ∷ s)))
 laid (reported.conflict m p a b c) s = on_inode Each m p ++ (holder_text Each c.one.client a ++ 32 ∷ holds c (holder_text Each c.other.client b ++ 10 ∷ s))
 laid (reported.conflict_group a b c n) s = holder_text Groups c.one.client a ++ 32 ∷ holds c (holder_text Groups c.other.client b ++ (codes ": " ++ (decimal n ++ 10 ∷ s)))
+laid (reported.renamed n c a) s = codes "session " ++ (decimal n ++ (codes ": " ++ (quoted c ++ (codes " calls itself " ++ (quoted a ++ 10 ∷ s)))))
+laid (reported.unlinked n p) s = codes "inode " ++ (decimal n ++ (codes ": unlinked, judged as " ++ (quoted (path_text p) ++ 10 ∷ s)))
 laid (reported.unnamed n) s = codes "client " ++ (decimal n ++ (codes ": no session names it\n" ++ s))
 laid (reported.unlisted c) s = quoted c ++ (codes ": no entry in the auth list\n" ++ s)
 laid (reported.unread c f) s = quoted c ++ (codes ": grants: " ++ (fault_word f.kind ++ (codes " at " ++ (decimal f.at ++ 10 ∷ s))))
@@ -79,6 +81,12 @@ conflict_groups_apart : (h i j k n s : List ℕ) → ((((h ++ ((codes " holds " 
     ≡ h ++ (codes " holds " ++ (i ++ (codes " beside " ++ (j ++ (codes " of " ++ (k ++ (codes ": " ++ (n ++ 10 ∷ s))))))))
 conflict_groups_apart h i j k n s = simp append_assoc
 
+renamed_apart : (n c a s : List ℕ) → (codes "session " ++ (n ++ (codes ": " ++ (c ++ (codes " calls itself " ++ (a ++ codes "\n")))))) ++ s ≡ codes "session " ++ (n ++ (codes ": " ++ (c ++ (codes " calls itself " ++ (a ++ 10 ∷ s)))))
+renamed_apart n c a s = simp append_assoc
+
+unlinked_apart : (n p s : List ℕ) → (codes "inode " ++ (n ++ (codes ": unlinked, judged as " ++ (p ++ codes "\n")))) ++ s ≡ codes "inode " ++ (n ++ (codes ": unlinked, judged as " ++ (p ++ 10 ∷ s)))
+unlinked_apart n p s = simp append_assoc
+
 unnamed_apart : (n s : List ℕ) → (codes "client " ++ (n ++ codes ": no session names it\n")) ++ s ≡ codes "client " ++ (n ++ (codes ": no session names it\n" ++ s))
 unnamed_apart n s = simp append_assoc
 
@@ -98,6 +106,8 @@ laid_out (reported.held k p c n i x f) s = held_apart (place_text p c n) (text_o
 laid_out (reported.group c f n) s = group_apart (why_text f.missing f.rules) (quoted c) (decimal n) s
 laid_out (reported.conflict m p a b c) s = conflict_apart (on_inode Each m p) (holder_text Each c.one.client a) (text_of c.one.caps) (text_of c.other.caps) (holder_text Each c.other.client b) s
 laid_out (reported.conflict_group a b c n) s = conflict_groups_apart (holder_text Groups c.one.client a) (text_of c.one.caps) (text_of c.other.caps) (holder_text Groups c.other.client b) (decimal n) s
+laid_out (reported.renamed n c a) s = renamed_apart (decimal n) (quoted c) (quoted a) s
+laid_out (reported.unlinked n p) s = unlinked_apart (decimal n) (quoted (path_text p)) s
 laid_out (reported.unnamed n) s = unnamed_apart (decimal n) s
 laid_out (reported.unlisted c) s = append_assoc (quoted c) (codes ": no entry in the auth list\n") s
 laid_out (reported.unread c f) s = unread_apart (quoted c) (fault_word f.kind) (decimal f.at) s
@@ -120,6 +130,8 @@ kind (reported.bad_caps k p c n) = 8
 kind (reported.pathless k c n i) = 9
 kind reported.nothing = 10
 kind (reported.summary n) = 11
+kind (reported.renamed n c a) = 12
+kind (reported.unlinked n p) = 13
 
 some_kind : (l : Line) → 0 < kind l
 some_kind reported.nothing = omega arith
@@ -133,6 +145,8 @@ kind_is (reported.conflict m None a b c) s small =
     ap (λ (w : List ℕ). kind_of (codes "inode " ++ w)) (append_assoc (decimal m) (codes " ") (holder_text Each c.one.client a ++ rest)) ∙ on_number m c.one.client a rest small.0 small.1
 kind_is (reported.conflict m (Some p) a b c) s small = on_path p m c.one.client a c.one.caps (text_of c.other.caps ++ (codes " of " ++ (holder_text Each c.other.client b ++ 10 ∷ s))) small.1
 kind_is (reported.conflict_group a b c n) s small = of_conflict_text c.one.client a c.one.caps (text_of c.other.caps ++ (codes " of " ++ (holder_text Groups c.other.client b ++ (codes ": " ++ (decimal n ++ 10 ∷ s))))) small.1
+kind_is (reported.renamed n c a) s small = of_renamed n (quoted c ++ (codes " calls itself " ++ (quoted a ++ 10 ∷ s))) small
+kind_is (reported.unlinked n p) s small = of_unlinked n (quoted (path_text p) ++ 10 ∷ s) small
 kind_is (reported.unnamed n) s small = of_unnamed n s small
 kind_is (reported.unlisted c) s small = of_unlisted c s
 kind_is (reported.unread c f) s small = of_unread c f.kind (decimal f.at ++ 10 ∷ s)
@@ -276,6 +290,24 @@ one_conflict_group a b x y c d m n s t small also same =
     let other = one_last c.other.client d.other.client m n b y s t small.2 also.2 small.0 also.0 caps.2 in
     ((one.0, caps.0, caps.1, other.0, other.1), other.2)
 
+one_renamed : (m n : ℕ) (c d a b s t : List ℕ) → m < 2 ^ 64 → n < 2 ^ 64 → laid (reported.renamed m c a) s ≡ laid (reported.renamed n d b) t → TellTheSame (reported.renamed m c a) (reported.renamed n d b) × (s ≡ t)
+one_renamed m n c d a b s t small also same =
+    let u : List ℕ = codes "calls itself " ++ (quoted a ++ 10 ∷ s) in
+    let v : List ℕ = codes "calls itself " ++ (quoted b ++ 10 ∷ t) in
+    let session = behind_word (codes "session ") m n (codes ": " ++ (quoted c ++ 32 ∷ u)) (codes ": " ++ (quoted d ++ 32 ∷ v)) small also refl refl same in
+    let name = before_a_space c d u v (append_cancel_left (codes ": ") (quoted c ++ 32 ∷ u) (quoted d ++ 32 ∷ v) session.1) in
+    let other = before_a_line_feed a b s t (append_cancel_left (codes "calls itself ") (quoted a ++ 10 ∷ s) (quoted b ++ 10 ∷ t) name.1) in
+    ((session.0, name.0, other.0), other.1)
+
+one_unlinked : (m n : ℕ) (p q : List (List ℕ)) (s t : List ℕ) → m < 2 ^ 64 → n < 2 ^ 64 → laid (reported.unlinked m p) s ≡ laid (reported.unlinked n q) t → TellTheSame (reported.unlinked m p) (reported.unlinked n q) × (s ≡ t)
+one_unlinked m n p q s t small also same =
+    let word : List ℕ = codes ": unlinked, judged as " in
+    let u : List ℕ = quoted (path_text p) ++ 10 ∷ s in
+    let v : List ℕ = quoted (path_text q) ++ 10 ∷ t in
+    let inode = behind_word (codes "inode ") m n (word ++ u) (word ++ v) small also refl refl same in
+    let path = before_a_line_feed (path_text p) (path_text q) s t (append_cancel_left word u v inode.1) in
+    ((inode.0, path.0), path.1)
+
 one_unnamed : (m n : ℕ) (s t : List ℕ) → m < 2 ^ 64 → n < 2 ^ 64 → laid (reported.unnamed m) s ≡ laid (reported.unnamed n) t → (m ≡ n) × (s ≡ t)
 one_unnamed m n s t small also same =
     let both = behind_word (codes "client ") m n (codes ": no session names it\n" ++ s) (codes ": no session names it\n" ++ t) small also refl refl same in
@@ -341,6 +373,8 @@ of_kind (reported.held k p c m i x f) (reported.held l q d n j y g) s t e small 
 of_kind (reported.group c f m) (reported.group d g n) s t e small also same = one_group c d f g m n s t small also same
 of_kind (reported.conflict m p a b c) (reported.conflict n q x y d) s t e small also same = one_conflict m n p q a b x y c d s t small also same
 of_kind (reported.conflict_group a b c m) (reported.conflict_group x y d n) s t e small also same = one_conflict_group a b x y c d m n s t small also same
+of_kind (reported.renamed m c a) (reported.renamed n d b) s t e small also same = one_renamed m n c d a b s t small also same
+of_kind (reported.unlinked m p) (reported.unlinked n q) s t e small also same = one_unlinked m n p q s t small also same
 of_kind (reported.unnamed m) (reported.unnamed n) s t e small also same = one_unnamed m n s t small also same
 of_kind (reported.unlisted c) (reported.unlisted d) s t e small also same = one_unlisted c d s t same
 of_kind (reported.unread c f) (reported.unread d g) s t e small also same = one_unread c d f g s t small also same

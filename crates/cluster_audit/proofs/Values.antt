@@ -128,7 +128,7 @@ by_word word each =
     if bytes_eq word (codes "held-beyond") then 1 else (if bytes_eq word (codes "group") then (if bytes_eq each (codes "conflict") then 4 else 2)
     else (if bytes_eq word (codes "conflict") then 3 else (if bytes_eq word (codes "no-session") then 5 else (if bytes_eq word (codes "no-entry") then 6
     else (if bytes_eq word (codes "unread") then 7 else (if bytes_eq word (codes "unknown-caps") then 8 else (if bytes_eq word (codes "no-path") then 9
-    else (if bytes_eq word (codes "summary") then 11 else 10))))))))
+    else (if bytes_eq word (codes "summary") then 11 else (if bytes_eq word (codes "other-name") then 12 else (if bytes_eq word (codes "unlinked") then 13 else 10))))))))))
 
 -- null where there is none
 abbrev data_of : Option Data → Data
@@ -203,6 +203,18 @@ one_conflict_group a b x y c d m n fit fits same = (
   ap (number_at (codes "count")) same,
 )
 
+one_renamed : (m n : ℕ) (c d a b : List ℕ) → HasBytes (reported.renamed m c a) → HasBytes (reported.renamed n d b) → value_of (reported.renamed m c a) ≡ value_of (reported.renamed n d b)
+    → TellTheSame (reported.renamed m c a) (reported.renamed n d b)
+one_renamed m n c d a b fit fits same = (
+  ap (number_at (codes "session")) same,
+  one_spelling c d fit.0 fits.0 (ap (at_key (codes "client")) same),
+  one_spelling a b fit.1 fits.1 (ap (at_key (codes "calls_itself")) same),
+)
+
+one_unlinked : (m n : ℕ) (p q : List (List ℕ)) → HasBytes (reported.unlinked m p) → HasBytes (reported.unlinked n q) → value_of (reported.unlinked m p) ≡ value_of (reported.unlinked n q)
+    → TellTheSame (reported.unlinked m p) (reported.unlinked n q)
+one_unlinked m n p q fit fits same = (ap (number_at (codes "inode")) same, one_spelling (path_text p) (path_text q) fit fits (ap (at_key (codes "path")) same))
+
 one_unread : (c d : List ℕ) (f g : SpecFault) → IsBytes c → IsBytes d → value_of (reported.unread c f) ≡ value_of (reported.unread d g) → TellTheSame (reported.unread c f) (reported.unread d g)
 one_unread c d f g fit fits same =
     let kind : f.kind ≡ g.kind = one_kind f.kind g.kind (ap (λ (v : Option Data). text_in (at_key (codes "fault") v)) same) in
@@ -246,6 +258,8 @@ of_kind (reported.held k p c m i x f) (reported.held l q d n j y g) e fit fits s
 of_kind (reported.group c f m) (reported.group d g n) e fit fits same = (one_group c d f g m n fit fits same, tt)
 of_kind (reported.conflict m p a b c) (reported.conflict n q x y d) e fit fits same = one_conflict m n p q a b x y c d fit fits same
 of_kind (reported.conflict_group a b c m) (reported.conflict_group x y d n) e fit fits same = (one_conflict_group a b x y c d m n fit fits same, tt)
+of_kind (reported.renamed m c a) (reported.renamed n d b) e fit fits same = (one_renamed m n c d a b fit fits same, tt)
+of_kind (reported.unlinked m p) (reported.unlinked n q) e fit fits same = (one_unlinked m n p q fit fits same, tt)
 of_kind (reported.unnamed m) (reported.unnamed n) e fit fits same = (ap (number_at (codes "session")) same, tt)
 of_kind (reported.unlisted c) (reported.unlisted d) e fit fits same = (one_spelling c d fit fits (ap (at_key (codes "client")) same), tt)
 of_kind (reported.unread c f) (reported.unread d g) e fit fits same = (one_unread c d f g fit fits same, tt)

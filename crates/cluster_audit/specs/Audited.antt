@@ -1,5 +1,6 @@
 -- What clients of a cluster hold and may not.
-use Rattle.std.specs.Prelude.{◌≡◌, ◌⊎◌, ◌==◌, ℕ, Bool, not, if◌then◌else◌, Option, Some, None, option_and_then, Ok, List, [], ◌∷◌, ◌++◌, length, find}
+use Rattle.std.specs.Prelude.{◌≡◌, ◌⊎◌, ◌==◌, ◌||◌, ℕ, Bool, not, is_some, if◌then◌else◌, Option, Some, None, option_and_then, Ok, List, [], ◌∷◌, ◌++◌, length, find}
+use Rattle.std.specs.Option.{option_or}
 use Rattle.std.specs.Prelude.{bytes_eq, IsTrue}
 use Rattle.std.specs.FinMap as map
 use Rattle.std.specs.List.{flat_map}
@@ -31,7 +32,7 @@ use Rattle.cluster_audit.specs.declared.notes.Manner.{Manner}
 use Rattle.cluster_audit.specs.declared.notes.Notes.{Notes}
 use Rattle.cluster_audit.specs.Order.{AreCounted, AreInOrder}
 use Rattle.cluster_audit.specs.Summary.{counts_of}
-use Rattle.cluster_audit.specs.Shaped.{bad_caps_in, conflict_in, counts_in, found_in, pathless_in, unlisted_in, unnamed_in, unread_in}
+use Rattle.cluster_audit.specs.Shaped.{alias_in, bad_caps_in, conflict_in, counts_in, found_in, pathless_in, unlinked_in, unlisted_in, unnamed_in, unread_in}
 
 -- ---- who it is
 
@@ -123,8 +124,12 @@ abbrev pub SaysAt : List ℕ → Clients → Listed → Option (List (List ℕ))
 SaysAt fs known it None found unknown = (found ≡ []) × (unknown ≡ flat_map (pathless_of known.manner.shape known.sessions it.number) it.holders)
 SaysAt fs known it (Some path) found unknown = AreReports (SaysOf known it.number (inode fs path it.attr)) it.holders found unknown
 
+-- the names that lead to an inode, or that led to it before it was unlinked
+abbrev pub path_of : PathMap → Listed → Option (List (List ℕ))
+path_of paths it = option_or (map.get paths it.number) it.prior
+
 abbrev pub SaysOfInode : List ℕ → Clients → PathMap → Listed → List ℕ → List ℕ → Type 0
-SaysOfInode fs known paths it found unknown = SaysAt fs known it (map.get paths it.number) found unknown
+SaysOfInode fs known paths it found unknown = SaysAt fs known it (path_of paths it) found unknown
 
 -- ---- what two sessions hold together
 
@@ -151,6 +156,31 @@ abbrev pub SaysOfPairs : Manner → List Known → PathMap → Listed → List �
 SaysOfPairs m sessions paths it text = (holdings : List Holding) × Give Holds it.holders holdings
     × (text ≡ flat_map (conflict_at m sessions it.number (map.get paths it.number)) (conflicts_of holdings))
 
+-- ---- names
+
+-- of a session, by its number, the name of its client, and what that calls itself otherwise
+abbrev pub alias_text : Shape → ℕ → Option (List ℕ) → Option (List ℕ) → List ℕ
+alias_text shape session None alias = []
+alias_text shape session (Some client) None = []
+alias_text shape session (Some client) (Some alias) = alias_in shape session client alias
+
+abbrev pub says_of_name : Shape → Known → List ℕ
+says_of_name shape s = alias_text shape s.number s.client s.alias
+
+-- ---- unlinked inodes
+
+-- of an inode that was unlinked, by the names that led to it, if it is not silent
+abbrev pub prior_text : Shape → ℕ → Option (List (List ℕ)) → Bool → List ℕ
+prior_text shape number None silent = []
+prior_text shape number (Some path) silent = if silent then [] else unlinked_in shape number path
+
+-- it is where nobody holds anything of it, or a path leads to it
+abbrev pub says_of_prior : Shape → PathMap → Listed → List ℕ
+says_of_prior shape paths it = prior_text shape it.number it.prior ((length it.holders == 0) || is_some (map.get paths it.number))
+
+abbrev pub remarks : Shape → List Known → PathMap → List Listed → List ℕ
+remarks shape sessions paths inodes = flat_map (says_of_name shape) sessions ++ flat_map (says_of_prior shape paths) inodes
+
 -- ---- the audit
 
 -- lines in order, or lines that are alike counted
@@ -158,9 +188,10 @@ abbrev pub AreListed : Detail → Shape → List ℕ → List ℕ → Type 0
 AreListed Each shape text listed = AreInOrder text listed
 AreListed Groups shape text listed = AreCounted shape text listed
 
--- what is found beyond grants and in conflict, in order or counted, and behind it, in order, what is not known
-abbrev pub AreLines : Manner → List ℕ → List ℕ → List ℕ → List ℕ → Type 0
-AreLines m beyond conflicts unknown lines = (first : List ℕ) × (last : List ℕ) × AreListed m.detail m.shape (beyond ++ conflicts) first × AreInOrder unknown last × (lines ≡ first ++ last)
+-- what is found beyond grants and in conflict, in order or counted, and behind it, in order, what is remarked, and what is not known
+abbrev pub AreLines : Manner → List ℕ → List ℕ → List ℕ → List ℕ → List ℕ → Type 0
+AreLines m beyond conflicts remarked unknown lines = (first : List ℕ) × (others : List ℕ) × (last : List ℕ)
+    × AreListed m.detail m.shape (beyond ++ conflicts) first × AreInOrder remarked others × AreInOrder unknown last × (lines ≡ (first ++ others) ++ last)
 
 -- these lines are told, or that nothing is found where there are none, and behind them the last one
 abbrev pub IsReported : Shape → List ℕ → List ℕ → List ℕ → Bool → Type 0
@@ -174,7 +205,7 @@ pub record IsReport (fs : List ℕ) (known : Clients) (seen : Dump) (text : List
   pub lines : List ℕ
   pub reports : AreReports (SaysOfInode fs known seen.paths) seen.inodes beyond unknown
   pub paired : Give (SaysOfPairs known.manner known.sessions seen.paths) seen.inodes conflicts
-  pub ordered : AreLines known.manner beyond conflicts unknown lines
+  pub ordered : AreLines known.manner beyond conflicts (remarks known.manner.shape known.sessions seen.paths seen.inodes) unknown lines
   pub reported : IsReported known.manner.shape lines (counts_in known.manner.shape (counts_of known.sessions seen.inodes beyond conflicts unknown)) text found
 
 -- ---- the texts

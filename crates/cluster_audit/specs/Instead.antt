@@ -4,9 +4,9 @@ use Rattle.hex.specs.Hex.{IsBytes}
 use Rattle.serde_json.specs.Data.{Data}
 use Rattle.texts.specs.Explaining.{path_text}
 use Rattle.texts.specs.Lines.{HasNumber}
-use Rattle.cluster_audit.specs.Objects.{alike_value, bad_caps_value, conflict_group_value, conflict_value, counts_value, found_value, group_value}
-use Rattle.cluster_audit.specs.Objects.{pathless_value, unlisted_value, unnamed_value, unread_value}
-use Rattle.cluster_audit.specs.Reported.{Line, TellTheSame, bad_caps, conflict, conflict_group, group, held, nothing, pathless, summary, unlisted, unnamed}
+use Rattle.cluster_audit.specs.Objects.{alias_value, alike_value, bad_caps_value, conflict_group_value, conflict_value, counts_value, found_value, group_value}
+use Rattle.cluster_audit.specs.Objects.{pathless_value, unlinked_value, unlisted_value, unnamed_value, unread_value}
+use Rattle.cluster_audit.specs.Reported.{Line, TellTheSame, bad_caps, conflict, conflict_group, group, held, nothing, pathless, renamed, summary, unlinked, unlisted, unnamed}
 use Rattle.cluster_audit.specs.Reported.{unread}
 
 -- the value of the object, which stands in the place of each line but the one that says that nothing is found
@@ -15,6 +15,8 @@ value_of (held number path client session issued pending found) = Some (found_va
 value_of (group client found count) = Some (group_value count (alike_value client found))
 value_of (conflict number path one other c) = Some (conflict_value number path one other c)
 value_of (conflict_group one other c count) = Some (group_value count (conflict_group_value one other c))
+value_of (renamed session client alias) = Some (alias_value session client alias)
+value_of (unlinked number path) = Some (unlinked_value number path)
 value_of (unnamed number) = Some (unnamed_value number)
 value_of (unlisted client) = Some (unlisted_value client)
 value_of (unread client fault) = Some (unread_value client fault)
@@ -29,6 +31,8 @@ HasBytes (held number path client session issued pending f) = IsBytes (path_text
 HasBytes (group client f count) = IsBytes client
 HasBytes (conflict number path one other c) = IfSome path (λ names. IsBytes (path_text names)) × IfSome one IsBytes × IfSome other IsBytes
 HasBytes (conflict_group one other c count) = IfSome one IsBytes × IfSome other IsBytes
+HasBytes (renamed session client alias) = IsBytes client × IsBytes alias
+HasBytes (unlinked number path) = IsBytes (path_text path)
 HasBytes (unlisted client) = IsBytes client
 HasBytes (unread client fault) = IsBytes client
 HasBytes (bad_caps number path client session) = IsBytes (path_text path) × IsBytes client

@@ -3,13 +3,14 @@ use Rattle.std.specs.Prelude.{◌≡◌, ℕ, Bool, not, ◌&&◌, is_some, if�
 use Rattle.ceph_input.specs.Auth.{Named}
 use Rattle.ceph_input.specs.Sessions.{Connected, KeyName, sessions_of}
 
--- a session: its number, and the name of its client in the auth list, if it tells one
+-- a session: its number, the name of its client in the auth list, if it tells one, and what it calls itself otherwise, if it does
 pub record Known : Type 0 where
   pub number : ℕ
   pub client : Option (List ℕ)
+  pub alias : Option (List ℕ)
 
-abbrev pub known : ℕ → Option (List ℕ) → Known
-known number client = record { number = number; client = client }
+abbrev pub known : ℕ → Option (List ℕ) → Option (List ℕ) → Known
+known number client alias = record { number = number; client = client; alias = alias }
 
 abbrev pub is_listed : List Named → List ℕ → Bool
 is_listed entities name = is_some (find (λ e. bytes_eq e.name name) entities)
@@ -33,8 +34,14 @@ abbrev pub told_name : List Named → Option KeyName → Option (List ℕ) → O
 told_name entities (Some k) entity = Some (key_name k.kind k.id)
 told_name entities None entity = option_map (name_in entities) entity
 
+-- what the client calls itself, where its key has another name
+abbrev pub alias_of : Option KeyName → Option (List ℕ) → Option (List ℕ)
+alias_of None entity = None
+alias_of (Some k) None = None
+alias_of (Some k) (Some id) = if bytes_eq k.id id then None else Some id
+
 abbrev pub known_as : List Named → Connected → Known
-known_as entities s = known s.number (told_name entities s.key s.entity)
+known_as entities s = known s.number (told_name entities s.key s.entity) (alias_of s.key s.entity)
 
 -- the text means sessions, and these are they by the names that the list has
 abbrev pub AreKnown : List Named → List ℕ → List Known → Type 0

@@ -114,6 +114,16 @@ group_object count each = codes "{\"count\":" ++ (decimal count ++ (codes ",\"ea
 abbrev pub group_value : ℕ → Data → Data
 group_value count each = object_of ((codes "count", natural count) ∷ (codes "each", each) ∷ (codes "kind", string (codes "group")) ∷ [])
 
+-- ---- names and paths
+
+-- the client of a session calls itself otherwise than its key is named
+abbrev pub alias_value : ℕ → List ℕ → List ℕ → Data
+alias_value session client alias = object_of ((codes "kind", string (codes "other-name")) ∷ (codes "session", natural session) ∷ (codes "client", bytes_value client) ∷ (codes "calls_itself", bytes_value alias) ∷ [])
+
+-- an inode was unlinked, and is judged by the path that it had
+abbrev pub unlinked_value : ℕ → List (List ℕ) → Data
+unlinked_value number path = object_of ((codes "kind", string (codes "unlinked")) ∷ (codes "inode", natural number) ∷ (codes "path", path_value path) ∷ [])
+
 -- ---- what could not be judged
 
 -- a client that no session names

@@ -14,7 +14,7 @@ use Rattle.texts.specs.declared.shape.Shape.TheVariants.{Lines}
 use Rattle.texts.specs.Shapes.{nothing_in}
 use Rattle.cluster_audit.specs.declared.notes.Detail.TheVariants.{Each, Groups}
 use Rattle.cluster_audit.specs.declared.summary.Counts.{Counts}
-use Rattle.cluster_audit.specs.Lines.{bad_caps_line, conflict_line, conflict_text, counts_line, group_text, held_line, pathless_line, unlisted_line}
+use Rattle.cluster_audit.specs.Lines.{alias_line, bad_caps_line, conflict_line, conflict_text, counts_line, group_text, held_line, pathless_line, unlinked_line, unlisted_line}
 use Rattle.cluster_audit.specs.Lines.{unnamed_line}
 use Rattle.cluster_audit.specs.Shaped.{counted_in}
 
@@ -28,6 +28,10 @@ pub data Line : Type 0 where
   conflict : ℕ → Option (List (List ℕ)) → Option (List ℕ) → Option (List ℕ) → Conflict → Line
   -- how many of two clients do so
   conflict_group : Option (List ℕ) → Option (List ℕ) → Conflict → ℕ → Line
+  -- in this session this client calls itself so
+  renamed : ℕ → List ℕ → List ℕ → Line
+  -- this inode was unlinked at this path
+  unlinked : ℕ → List (List ℕ) → Line
   unnamed : ℕ → Line
   unlisted : List ℕ → Line
   unread : List ℕ → SpecFault → Line
@@ -41,6 +45,8 @@ line_text (held number path client session issued pending found) = held_line pat
 line_text (group client found count) = counted_in Lines (group_text client found) count
 line_text (conflict number path one other c) = conflict_line Each number path one other c
 line_text (conflict_group one other c count) = counted_in Lines (conflict_text Groups one other c) count
+line_text (renamed session client alias) = alias_line session client alias
+line_text (unlinked number path) = unlinked_line number path
 line_text (unnamed number) = unnamed_line number
 line_text (unlisted client) = unlisted_line client
 line_text (unread client fault) = unread_line client fault
@@ -64,6 +70,8 @@ HasNumbers (held number path client session issued pending found) = session < 2 
 HasNumbers (group client found count) = count < 2 ^ 64
 HasNumbers (conflict number path one other c) = (number < 2 ^ 64) × (c.one.client < 2 ^ 64) × (c.other.client < 2 ^ 64)
 HasNumbers (conflict_group one other c count) = (count < 2 ^ 64) × (c.one.client < 2 ^ 64) × (c.other.client < 2 ^ 64)
+HasNumbers (renamed session client alias) = session < 2 ^ 64
+HasNumbers (unlinked number path) = number < 2 ^ 64
 HasNumbers (unnamed number) = number < 2 ^ 64
 HasNumbers (unlisted client) = Unit {0}
 HasNumbers (unread client fault) = fault.at < 2 ^ 64
@@ -98,6 +106,8 @@ TellTheSame (group c f m) (group d g n) = (reasons f.missing f.rules ≡ reasons
 TellTheSame (conflict m p a b c) (conflict n q x y d) = IsOneInode m p n q × (a ≡ x) × (b ≡ y) × (c ≡ d)
 TellTheSame (conflict_group a b c m) (conflict_group x y d n) =
     IsOneClient c.one.client a d.one.client x × (c.one.caps ≡ d.one.caps) × (c.other.caps ≡ d.other.caps) × IsOneClient c.other.client b d.other.client y × (m ≡ n)
+TellTheSame (renamed m c a) (renamed n d b) = (m ≡ n) × (c ≡ d) × (a ≡ b)
+TellTheSame (unlinked m p) (unlinked n q) = (m ≡ n) × (path_text p ≡ path_text q)
 TellTheSame (unnamed m) (unnamed n) = m ≡ n
 TellTheSame (unlisted c) (unlisted d) = c ≡ d
 TellTheSame (unread c f) (unread d g) = (c ≡ d) × (f ≡ g)

@@ -13,8 +13,8 @@ use Rattle.cluster_audit.specs.declared.notes.Detail.{Detail}
 use Rattle.cluster_audit.specs.declared.notes.Detail.TheVariants.{Each, Groups}
 use Rattle.cluster_audit.specs.declared.notes.Manner.{Manner}
 use Rattle.cluster_audit.specs.declared.summary.Counts.{Counts}
-use Rattle.cluster_audit.specs.Lines.{bad_caps_line, conflict_line, counts_line, group_line, held_line, pathless_line, unlisted_line, unnamed_line}
-use Rattle.cluster_audit.specs.Objects.{bad_caps_value, conflict_object, counts_object, found_object, group_object, pathless_value, unlisted_value}
+use Rattle.cluster_audit.specs.Lines.{alias_line, bad_caps_line, conflict_line, counts_line, group_line, held_line, pathless_line, unlinked_line, unlisted_line, unnamed_line}
+use Rattle.cluster_audit.specs.Objects.{alias_value, bad_caps_value, conflict_object, counts_object, found_object, group_object, pathless_value, unlinked_value, unlisted_value}
 use Rattle.cluster_audit.specs.Objects.{unnamed_value, unread_value}
 
 -- the line, or the object in its place
@@ -39,6 +39,14 @@ conflict_in m number path one other c = in_shape m.shape (conflict_line m.detail
 -- what so many are
 abbrev pub counted_in : Shape → List ℕ → ℕ → List ℕ
 counted_in shape line count = in_shape shape (line ++ codes ": " ++ decimal count ++ codes "\n") (group_object count line)
+
+-- ---- names and paths
+
+abbrev pub alias_in : Shape → ℕ → List ℕ → List ℕ → List ℕ
+alias_in shape session client alias = in_shape shape (alias_line session client alias) (json_line (alias_value session client alias))
+
+abbrev pub unlinked_in : Shape → ℕ → List (List ℕ) → List ℕ
+unlinked_in shape number path = in_shape shape (unlinked_line number path) (json_line (unlinked_value number path))
 
 -- ---- what could not be judged
 

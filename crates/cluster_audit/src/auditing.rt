@@ -1,8 +1,9 @@
 //! From the clients and the tree of a cluster to what is held and may not be.
-ghost use Rattle.std.specs.Prelude.{IfOk, OnOk};
+ghost use Rattle.std.specs.Prelude.{◌≡◌, IfOk, OnOk, option_map};
 ghost use Rattle.ceph_input.specs.Dump.{dump};
-ghost use Rattle.cluster_audit.specs.Audited.{Adds, AreLines, AreReports, IsReport, IsReported, SaysOf, SaysOfInode, clients_of};
+ghost use Rattle.cluster_audit.specs.Audited.{Adds, AreLines, AreReports, IsReport, IsReported, SaysOf, SaysOfInode, clients_of, path_of, remarks};
 
+use crate::aliases::alias_lines;
 use crate::clients::ClusterClients;
 use crate::holders::{note_holder, print_pathless_holders};
 use crate::inode::Inode;
@@ -10,6 +11,7 @@ use crate::notes::{Detail, Manner, Notes, Report};
 use crate::order::{counted, in_order};
 use crate::pairs::conflict_lines;
 use crate::summary::summary_line;
+use crate::unlinked::unlinked_lines;
 use capbits::{Numbered, print_str};
 use capspec::{FsName, TreePath};
 use ceph_input::{Holder, Tree, TreeInode};
@@ -17,8 +19,8 @@ use std::alloc::{AllocError, Global};
 use texts::Shape;
 
 /// What the clients of a cluster hold of the inodes of this file system, by the tree that a metadata server has in memory, and nobody
-/// behind their keys is permitted, and what two of them hold that no two may hold together; behind that what could not be judged; each
-/// line once, in the order of the lines' bytes, which is first that of paths, or those that are alike counted; and a line that sums it
+/// behind their keys is permitted, and what two of them hold that no two may hold together; behind that which clients call themselves
+/// otherwise than their keys are named, which inodes were unlinked, and what could not be judged; each line once, in the order of the lines' bytes, which is first that of paths, or those that are alike counted; and a line that sums it
 /// up.
 pub fn audit_report(
     alloc: Global,
@@ -32,7 +34,14 @@ pub fn audit_report(
     let inodes = tree.inodes.as_slice();
     let notes = note_inodes(alloc, manner, fs, clients, inodes, &tree.paths)?;
     let conflicts = conflict_lines(alloc, manner, clients, inodes, &tree.paths)?;
-    let lines = all_lines(alloc, manner, &notes, conflicts.as_slice())?;
+    let remarked = remarks(alloc, manner.shape, clients, inodes, &tree.paths)?;
+    let lines = all_lines(
+        alloc,
+        manner,
+        &notes,
+        conflicts.as_slice(),
+        remarked.as_slice(),
+    )?;
     let last = summary_line(
         alloc,
         manner.shape,
@@ -45,14 +54,15 @@ pub fn audit_report(
     Ok(report)
 }
 
-// What is found, in order or counted, and behind it what could not be judged.
+// What is found, in order or counted, and behind it what is remarked and what could not be judged.
 fn all_lines(
     alloc: Global,
     manner: Manner,
     notes: &Notes,
     conflicts: &[u8],
+    remarked: &[u8],
 ) -> Result<Vec<u8>, AllocError>
-    ensures { IfOk result (λ lines. AreLines manner notes.now.found.items conflicts.now notes.now.unknown.items lines.items) }
+    ensures { IfOk result (λ lines. AreLines manner notes.now.found.items conflicts.now remarked.now notes.now.unknown.items lines.items) }
 {
     let mut found = Vec::from_slice(alloc, notes.found.as_slice())?;
     found.extend_from_slice(conflicts)?;
@@ -60,9 +70,27 @@ fn all_lines(
         Detail::Each => in_order(alloc, found.as_slice())?,
         Detail::Groups => counted(alloc, manner.shape, found.as_slice())?,
     };
+    let remarked = in_order(alloc, remarked)?;
+    lines.extend_from_slice(remarked.as_slice())?;
     let unknown = in_order(alloc, notes.unknown.as_slice())?;
     lines.extend_from_slice(unknown.as_slice())?;
     Ok(lines)
+}
+
+// Which clients call themselves otherwise than their keys are named, and which inodes are judged by paths that they had.
+fn remarks(
+    alloc: Global,
+    shape: Shape,
+    clients: &ClusterClients,
+    inodes: &[TreeInode],
+    paths: &Numbered<TreePath>,
+) -> Result<Vec<u8>, AllocError>
+    ensures { IfOk result (λ text. text.items ≡ remarks shape clients.now.sessions paths.now inodes.now) }
+{
+    let mut text = alias_lines(alloc, shape, clients.sessions())?;
+    let unlinked = unlinked_lines(alloc, shape, inodes, paths)?;
+    text.extend_from_slice(unlinked.as_slice())?;
+    Ok(text)
 }
 
 // These lines, or that nothing is found where there are none, and the last line.
@@ -106,7 +134,7 @@ fn note_inode(
 ) -> Result<(), AllocError>
     ensures { OnOk result (Adds (SaysOfInode fs.now (clients_of manner clients.now) paths.now inode.now) notes.old notes.new) }
 {
-    let Some(path) = paths.get(inode.number()) else {
+    let Some(path) = path_of(paths, inode) else {
         return print_pathless_holders(
             &mut notes.unknown,
             manner.shape,
@@ -129,6 +157,16 @@ fn note_inode(
         &place,
         inode.holders(),
     )
+}
+
+// The path that leads to an inode, or that led to it before it was unlinked.
+fn path_of<'a>(paths: &'a Numbered<TreePath>, inode: &'a TreeInode) -> Option<&'a TreePath>
+    ensures { option_map (λ path. path.now) result ≡ path_of paths.now inode.now }
+{
+    match paths.get(inode.number()) {
+        Some(path) => Some(path),
+        None => inode.prior_path(),
+    }
 }
 
 // Appends what is said of those who hold something of the inode of this number.

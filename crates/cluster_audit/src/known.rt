@@ -1,6 +1,6 @@
 //! Sessions by the names that the auth list has of their clients.
-ghost use Rattle.std.specs.Prelude.{◌≡◌, IfOk, map};
-ghost use Rattle.cluster_audit.specs.Known.{is_listed, key_name, known_as, name_in};
+ghost use Rattle.std.specs.Prelude.{◌≡◌, IfOk, map, option_map};
+ghost use Rattle.cluster_audit.specs.Known.{alias_of, is_listed, key_name, known_as, name_in};
 
 use ceph_input::{AuthList, Session};
 use std::alloc::{AllocError, Global};
@@ -10,6 +10,7 @@ use std::marker::Model;
 pub(crate) struct KnownSession {
     number: u64,
     client: Option<Vec<u8>>,
+    alias: Option<Vec<u8>>,
 }
 
 // Not derived: so the proof of a function that drops one has a single call there.
@@ -18,6 +19,7 @@ impl Drop for KnownSession {
         let KnownSession {
             number: _,
             client: _,
+            alias: _,
         } = self;
     }
 }
@@ -28,7 +30,7 @@ impl Model for KnownSession {
 
     ghost Value = { Known };
 
-    ghost view = { λ s. known s.number (option_map (λ name. name.items) s.client) };
+    ghost view = { λ s. known s.number (option_map (λ name. name.items) s.client) (option_map (λ id. id.items) s.alias) };
 }
 
 impl KnownSession {
@@ -44,9 +46,14 @@ impl KnownSession {
             (None, Some(id)) => Some(name_in(alloc, auth, id)?),
             (None, None) => None,
         };
+        let alias = match other_name(session) {
+            None => None,
+            Some(id) => Some(Vec::from_slice(alloc, id)?),
+        };
         Ok(KnownSession {
             number: session.number(),
             client,
+            alias,
         })
     }
 
@@ -65,6 +72,28 @@ impl KnownSession {
             None => None,
             Some(name) => Some(name.as_slice()),
         }
+    }
+
+    // What its client calls itself, where its key has another name.
+    pub(crate) fn alias(&self) -> Option<&[u8]>
+        ensures { option_map (λ id. id.now) result ≡ self.now.alias }
+    {
+        match &self.alias {
+            None => None,
+            Some(id) => Some(id.as_slice()),
+        }
+    }
+}
+
+// What its client calls itself, where its key has another name.
+fn other_name(session: &Session) -> Option<&[u8]>
+    ensures { option_map (λ id. id.now) result ≡ alias_of session.now.key session.now.entity }
+{
+    let id = session.entity()?;
+    if session.key()?.id() == id {
+        None
+    } else {
+        Some(id)
     }
 }
 

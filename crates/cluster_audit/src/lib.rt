@@ -5,6 +5,7 @@
 //! Public source: "Capabilities in CephFS" and "CephFS client capabilities" in the Ceph documentation.
 #![tactic(auto)]
 
+mod aliases;
 mod auditing;
 mod callers;
 mod clients;
@@ -24,6 +25,7 @@ mod order;
 mod pairs;
 mod summary;
 mod unjudged;
+mod unlinked;
 
 pub use auditing::audit_report;
 pub use clients::ClusterClients;
