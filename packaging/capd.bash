@@ -28,7 +28,7 @@ _capd() {
     elif [[ ${COMP_WORDS[1]} == who ]]; then
         mapfile -t COMPREPLY < <(compgen -W '--auth --fs --owner --group --mode --more --json --help' -- "$word")
     else
-        mapfile -t COMPREPLY < <(compgen -W '--grants --keyring --auth --client --fs --uid --gid --groups --path --owner --group --mode --access --mds --more --quiet --json --help' -- "$word")
+        mapfile -t COMPREPLY < <(compgen -W '--grants --keyring --auth --client --fs --uid --gid --groups --path --owner --group --mode --access --mds --addr --more --quiet --json --help' -- "$word")
     fi
 }
 complete -F _capd capd

@@ -120,6 +120,7 @@ fn first_values(alloc: Global) -> Result<Values, AllocError> {
         group: Vec::new(alloc),
         mode: Vec::new(alloc),
         access: Vec::new(alloc),
+        addr: None,
     })
 }
 

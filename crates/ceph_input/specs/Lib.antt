@@ -5,5 +5,6 @@ pub mod Dump
 pub mod Reader
 pub mod Keyring
 pub mod Auth
+pub mod FsNames
 pub mod Rows
 pub mod Cutting

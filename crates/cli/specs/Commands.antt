@@ -13,6 +13,7 @@ use Rattle.cli_queries.specs.declared.command_line.Invocation.{Invocation}
 use Rattle.cli_queries.specs.declared.command_line.Invocation.TheVariants as invocations
 use Rattle.cli_queries.specs.declared.fault.AnswerFault.{AnswerFault}
 use Rattle.cli_queries.specs.Files.{ReadsFile}
+use Rattle.cli_queries.specs.FileSystems.{Notes}
 use Rattle.cli_queries.specs.Answers.{AnswersExplainArgs, AnswersGrants, AnswersLint, StopsComparing, StopsExplainArgs, StopsGrants, StopsLint}
 use Rattle.cli_queries.specs.AuditArgs.{AnswersAuditArgs, StopsAuditArgs}
 use Rattle.cli_queries.specs.WhoArgs.{AnswersWhoArgs, StopsWhoArgs}
@@ -71,8 +72,8 @@ Stops (invocations.Run more) fault input ended unread unwritten old new = (stop 
 Stops (invocations.Serve more) fault input ended unread unwritten old new = (stop : ServeFault) × (fault ≡ Serve stop) × ServeStops stop input unread unwritten old new
 
 -- The work was done with this status: the whole answer to what some words ask for was written, by the input or by a file that the command
--- reads in its place; or help was, which has a byte at least.
-abbrev pub WasDone : Option (List ℕ) → ℕ → Option (List ℕ) → Option (List ℕ) → Type 0
-WasDone input status old new =
-    ((invocation : Invocation) × (read : Option (List ℕ)) × (ReadsFile invocation ⊎ (read ≡ input)) × Answers invocation read status old new)
-    ⊎ ((help : List ℕ) × (status ≡ 0) × (help ≢ []) × Appends old new help)
+-- reads in its place, and beside it what is to be said of the file system, and nothing else; or help was, which has a byte at least.
+abbrev pub WasDone : Option (List ℕ) → ℕ → Option (List ℕ) → Option (List ℕ) → Option (List ℕ) → Option (List ℕ) → Type 0
+WasDone input status old new before after =
+    ((invocation : Invocation) × (read : Option (List ℕ)) × (ReadsFile invocation ⊎ (read ≡ input)) × Answers invocation read status old new × Notes invocation read before after)
+    ⊎ ((help : List ℕ) × (status ≡ 0) × (help ≢ []) × Appends old new help × Keeps before after)

@@ -10,6 +10,7 @@ ghost use Rattle.cli.specs.Served.{IsServed};
 ghost use Rattle.cli.specs.declared.stopping.Fault.{Fault as AFault};
 ghost use Rattle.cli.specs.declared.stopping.Fault.TheVariants as faults;
 ghost use Rattle.cli.specs.Commands.{Answers, RunStops, ServeStops, Stops, WasDone};
+ghost use Rattle.cli_queries.specs.FileSystems.{KnowsNames, Notes};
 ghost use Rattle.cli.specs.Hints.{hint_of, hint_unread};
 
 use crate::serving::serve;
@@ -17,7 +18,7 @@ use crate::stopping::Fault;
 use capscript::{ServeFault, run};
 use cli_queries::{
     DENIED, DONE, FAILED, FOUND, Invocation, USAGE, audit, compare_texts, explain, gather, grants,
-    keyring_file, lint, log, read_words, report, show, who,
+    keyring_file, lint, log, note, read_words, report, show, who,
 };
 use std::alloc::Global;
 use std::fs::Files;
@@ -39,12 +40,10 @@ pub fn dispatch<E: AllocGlobal + Files + Threads + Wait + Sync, R: Read, W: Writ
     requires reader_unended { IsFalse (has_ended reader.old) }
     requires writer_clear { IsFalse (has_failed writer.old) }
     ensures status { result ≤ DENIED }
-    ensures done { result ≡ DONE → Keeps (F.contents faults.old) (F.contents faults.new) }
     ensures usage { result ≡ USAGE → Keeps (W.contents (inner_of writer.old)) (W.contents (inner_of writer.new)) }
-    ensures denied { result ≡ DENIED → Keeps (F.contents faults.old) (F.contents faults.new) }
     // What was written where the work was done.
     ensures answered { (result ≡ DONE) ⊎ (result ≡ DENIED) → WasDone (R.remaining (inner_of reader.old)) result
-        (W.contents (inner_of writer.old)) (W.contents (inner_of writer.new)) }
+        (W.contents (inner_of writer.old)) (W.contents (inner_of writer.new)) (F.contents faults.old) (F.contents faults.new) }
 {
     let mut invocation = match read_words(rt.alloc(), words) {
         Ok(invocation) => invocation,
@@ -64,9 +63,9 @@ pub fn dispatch<E: AllocGlobal + Files + Threads + Wait + Sync, R: Read, W: Writ
 }
 
 /// Does what is asked, and returns the status: `DONE` where all of the answer was written, no stream failed, and nothing was
-/// written to `faults`, or `DENIED` where the status is all of the answer, or `FOUND` where something was found, or could not be judged,
-/// and all of it written; else `FAILED`. Neither stream was read or written to yet. What is read of a question's grants is kept in
-/// `invocation`.
+/// written to `faults` but that no grant names the file system, or `DENIED` where the status is all of the answer, or `FOUND` where
+/// something was found, or could not be judged, and all of it written; else `FAILED`. Neither stream was read or written to yet. What is
+/// read of a question's grants, and which file systems grants name, is kept in `invocation`.
 pub fn carry_out<T: Threads + Wait + Sync, R: Read, W: Write, F: Write>(
     rt: &T,
     alloc: Global,
@@ -79,7 +78,8 @@ pub fn carry_out<T: Threads + Wait + Sync, R: Read, W: Write, F: Write>(
     requires reader_unended { IsFalse (has_ended reader.old) }
     requires writer_clear { IsFalse (has_failed writer.old) }
     ensures { (((result ≡ DONE) ⊎ (result ≡ FOUND))
-        × IsFalse (has_failed reader.new) × IsFalse (has_failed writer.new) × Keeps (F.contents faults.old) (F.contents faults.new)
+        × IsFalse (has_failed reader.new) × IsFalse (has_failed writer.new)
+        × Notes invocation.old (R.remaining (inner_of reader.old)) (F.contents faults.old) (F.contents faults.new)
         × Answers invocation.old (R.remaining (inner_of reader.old)) result
         (W.contents (inner_of writer.old)) (W.contents (inner_of writer.new)))
         ⊎ ((result ≡ FAILED) × ((fault : AFault)
@@ -87,7 +87,10 @@ pub fn carry_out<T: Threads + Wait + Sync, R: Read, W: Write, F: Write>(
         (W.contents (inner_of writer.old)) (W.contents (inner_of writer.new)))) }
 {
     match answer(rt, alloc, invocation, reader, writer) {
-        Ok(status) => status,
+        Ok(status) => {
+            let _ = note(alloc, invocation, faults);
+            status
+        }
         Err(fault) => refuse(alloc, invocation, fault, reader, faults),
     }
 }
@@ -107,6 +110,7 @@ fn answer<T: Threads + Wait + Sync, R: Read, W: Write>(
     ensures ok { IfOk result (λ status. IsFalse (has_failed reader.new) × IsFalse (has_failed writer.new)
         × Answers invocation.old (R.remaining (inner_of reader.old)) status
         (W.contents (inner_of writer.old)) (W.contents (inner_of writer.new))) }
+    ensures names { OnOk result (KnowsNames invocation.old invocation.new (R.remaining (inner_of reader.old))) }
     ensures err { IfErr result (λ fault.
         Stops invocation.old fault (R.remaining (inner_of reader.old)) (has_ended reader.new) (has_failed reader.new) (has_failed writer.new)
         (W.contents (inner_of writer.old)) (W.contents (inner_of writer.new))) }

@@ -50,7 +50,7 @@ refused_unwritten text known failed refused (Err fault) found passed = inr ((pas
 -- values that ask a question are good
 all_good : (v : Values) (q : Question) → AsksFor v q → All (IsGood v) all_options
 all_good v q asks =
-    All-from_recursion (IsGood v) all_options ((q.grants, asks.grants), ((q.fs, asks.fs), ((q.caller.uid, asks.uid), ((q.caller.gid, asks.gid), ((q.caller.groups, asks.groups), ((q.path, asks.path), ((q.attr.uid, asks.owner), ((q.attr.gid, asks.group), ((q.attr.mode, asks.mode), ((q.access, asks.access), tt))))))))))
+    All-from_recursion (IsGood v) all_options ((q.grants, asks.grants), ((q.fs, asks.fs), ((q.caller.uid, asks.uid), ((q.caller.gid, asks.gid), ((q.caller.groups, asks.groups), ((q.path, asks.path), ((q.attr.uid, asks.owner), ((q.attr.gid, asks.group), ((q.attr.mode, asks.mode), ((q.access, asks.access), (asks.address, tt)))))))))))
 
 -- values that ask no question
 pub refused_question : {T : Type 0} (v : Values) (known : Option (List ℕ)) (failed : Bool) (found : QuestionFault) (answer : Result T AnswerFault) → IsFaultIn v found → IsErrAnd answer (λ fault. fault ≡ fault_of found)

@@ -1,19 +1,24 @@
--- An auth list that was read and is none.
-use Rattle.std.proofs.Common.{◌≡◌, ◌≤◌, ℕ, Bool, List, ◌++◌, Option, None, Some, inr, sym, ap, subst, ◌∙◌}
+-- An auth list that was read, and what is told of it; or that is none, or names several file systems.
+use Rattle.std.proofs.Common.{◌≡◌, ◌≤◌, ℕ, Bool, List, ◌++◌, Option, None, Some, inl, inr, sym, ap, subst, ◌∙◌}
 use Rattle.std.specs.Io.KnownBytes.{Appends, Consumes, IsAtEnd}
 use Rattle.std.specs.Prelude.{Err, IfErr, IfOk, IfSome, IsErrAnd, Ok, OnOk, Result, length, if◌then◌else◌}
 use Rattle.std.proofs.lemmas.List.{append-nil}
 use Rattle.ceph_input.specs.declared.auth_fault.AuthFault.{AuthFault}
-use Rattle.ceph_input.specs.Auth.{IsFaultOf, auth_of}
+use Rattle.ceph_input.specs.declared.auth_fault.AuthFault.TheVariants as auths
+use Rattle.ceph_input.specs.Auth.{IsFaultOf, Named, auth_of}
+use Rattle.ceph_input.specs.FsNames.{AreFsNames, fs_among}
 use Rattle.cli_queries.specs.declared.fault.AnswerFault.{AnswerFault}
+use Rattle.cli_queries.specs.declared.fault.AnswerFault.TheVariants.{NoMemory}
 use Rattle.cli_queries.specs.declared.who_args.WhoArgs.{WhoArgs}
-use Rattle.cli_queries.specs.Fault.{auth_fault_of}
+use Rattle.cli_queries.specs.Fault.{IsFaultOfNames, auth_fault_of}
 use Rattle.texts.specs.ScriptLines.{longest_script}
 use Rattle.queries.specs.declared.attempt.Attempt.{Attempt}
 use Rattle.queries.specs.declared.clients.WhoAnswer.{WhoAnswer}
 use Rattle.queries.specs.Attempts.{IsAttempt, wanted_by}
-use Rattle.queries.specs.Clients.{AnswersWho}
-use Rattle.cli_queries.specs.WhoArgs.{AnswersWhoArgs, StopsWhoArgs, WritesWho}
+use Rattle.queries.specs.Clients.{AreLines}
+use Rattle.cli_queries.specs.FileSystems.{AreNamedIn}
+use Rattle.cli_queries.specs.WhoArgs.{AnswersWhoArgs, ReportsWho, StopsWhoArgs}
+use Rattle.cli_queries.proofs.FileSystems.{none_given}
 use Rattle.cli_queries.proofs.Unwritten.{unchanged}
 
 -- what holds of all that was read holds of the input
@@ -22,19 +27,52 @@ all_of P None left all taken end holds = tt
 all_of P (Some xs) None all taken end holds = absurd taken
 all_of P (Some xs) (Some ys) all taken end holds = subst P (sym (taken ∙ ap (λ l. all ++ l) end ∙ append-nil all)) holds
 
-pub list_refused : {T : Type 0} (who_args : WhoArgs) (input left known : Option (List ℕ)) (auth : List ℕ) (unread unwritten : Bool) (found : AuthFault) (answer : Result T AnswerFault) → Consumes input left auth → IsAtEnd left → IsFaultOf found (auth_of auth)
-    → IsErrAnd answer (λ fault. fault ≡ auth_fault_of found) → IfErr answer (λ fault. StopsWhoArgs who_args fault input unread unwritten known known)
-list_refused who_args input left known auth unread unwritten found (Ok x) taken end why reported = tt
-list_refused who_args input left known auth unread unwritten found (Err fault) taken end why reported =
-    inr (inr (inr (found, reported, all_of (λ all. IsFaultOf found (auth_of all)) input left auth taken end why)), unchanged known)
+-- the text that was read to its end
+module _ (who_args : WhoArgs) (input left : Option (List ℕ)) (auth : List ℕ) (taken : Consumes input left auth) (end : IsAtEnd left) where
+  -- it is no auth list, or memory was missing
+  pub list_refused : {T : Type 0} (known : Option (List ℕ)) (unread unwritten : Bool) (found : AuthFault) (answer : Result T AnswerFault) → IsFaultOf found (auth_of auth)
+      → IsErrAnd answer (λ fault. fault ≡ auth_fault_of found) → IfErr answer (λ fault. StopsWhoArgs who_args fault input unread unwritten known known)
+  list_refused known unread unwritten found (Ok x) why reported = tt
+  list_refused known unread unwritten found (Err fault) why reported =
+      inr (inr (inr (inl (found, reported, all_of (λ all. IsFaultOf found (auth_of all)) input left auth taken end why))), unchanged known)
 
--- the list was read, and what is told of it was written
-pub told : (who_args : WhoArgs) (input left old new : Option (List ℕ)) (auth : List ℕ) (attempt : Attempt) (answer : WhoAnswer) (status : ℕ) (Fine : Type 0) (result : Result ℕ AnswerFault) → IsAttempt who_args.values attempt
-    → Consumes input left auth → IsAtEnd left → length auth ≤ longest_script → AnswersWho who_args.telling (wanted_by attempt) attempt.attr auth answer → status ≡ (if answer.judges_all then 0 else 3)
-    → IfOk result (λ said. said ≡ status) → OnOk result (Fine × Appends old new answer.lines.items) → IfOk result (λ said. AnswersWhoArgs who_args input said old new)
-told who_args input left old new auth attempt answer status Fine (Ok said) asks taken end short answers is same written = record {
-  attempt = attempt;
-  asks = asks;
-  reported = all_of (λ all. (length all ≤ longest_script) × ((one : WhoAnswer) × AnswersWho who_args.telling (wanted_by attempt) attempt.attr all one × WritesWho one said old new)) input left auth taken end (short, (answer, answers, (same ∙ is, written.1)));
-}
-told who_args input left old new auth attempt answer status Fine (Err fault) asks taken end short answers is same written = tt
+  pub no_memory_left : {T : Type 0} (known : Option (List ℕ)) (unread unwritten : Bool) (answer : Result T AnswerFault) → IsErrAnd answer (λ fault. fault ≡ NoMemory) → IfErr answer (λ fault. StopsWhoArgs who_args fault input unread unwritten known known)
+  no_memory_left known unread unwritten answer missed = list_refused known unread unwritten auths.NoMemory answer tt missed
+
+  -- it is one
+  module _ (list : List Named) (names : List (List ℕ)) (attempt : Attempt) (means : auth_of auth ≡ Some (Ok list)) (named : AreFsNames list names) (asks : IsAttempt who_args.values attempt) where
+    -- none is given of several file systems, or memory was missing
+    pub names_refused : {T : Type 0} (known : Option (List ℕ)) (unread unwritten : Bool) (found : AnswerFault) (answer : Result T AnswerFault) → IsFaultOfNames names attempt.fs found
+        → IsErrAnd answer (λ fault. fault ≡ found) → IfErr answer (λ fault. StopsWhoArgs who_args fault input unread unwritten known known)
+    names_refused known unread unwritten found (Ok x) why reported = tt
+    names_refused known unread unwritten found (Err fault) (inl several) reported =
+        let none = none_given who_args.values.fs names attempt.fs asks.fs several.1 in
+        inr (inr (inr (inr (reported ∙ several.0, none.0, all_of (λ all. (some : List (List ℕ)) × AreNamedIn all some × (fs_among some None ≡ None)) input left auth taken end (names, (list, means, named), none.1)))), unchanged known)
+    names_refused known unread unwritten found (Err fault) (inr missed) reported = no_memory_left known unread unwritten (Err fault) (reported ∙ missed)
+
+    -- what is told of it was written
+    pub told : (old new : Option (List ℕ)) (fs : List ℕ) (answer : WhoAnswer) (status : ℕ) (Fine : Type 0) (result : Result ℕ AnswerFault) → length auth ≤ longest_script → fs_among names attempt.fs ≡ Some fs
+        → AreLines who_args.telling (wanted_by attempt fs) attempt.attr list answer.judges_all answer.lines.items → status ≡ (if answer.judges_all then 0 else 3)
+        → IfOk result (λ said. said ≡ status) → OnOk result (Fine × Appends old new answer.lines.items) → IfOk result (λ said. AnswersWhoArgs who_args input said old new)
+    told old new fs answer status Fine (Err fault) short asked lines is same written = tt
+    told old new fs answer status Fine (Ok said) short asked lines is same written = record {
+      attempt = attempt;
+      asks = asks;
+      reported = all_of (λ all. ReportsWho who_args attempt all said old new) input left auth taken end (record {
+        list = list;
+        names = names;
+        fs = fs;
+        answer = answer;
+        short = short;
+        means = means;
+        named = named;
+        asked = asked;
+        lines_are = lines;
+        written = (same ∙ is, written.1);
+      });
+    }
+
+    -- the file systems are those that it names
+    pub names_kept : (result : Result ℕ AnswerFault) → OnOk result (IfSome input (λ all. AreNamedIn all names))
+    names_kept (Ok said) = all_of (λ all. AreNamedIn all names) input left auth taken end (list, means, named)
+    names_kept (Err fault) = tt

@@ -1,5 +1,5 @@
 -- How a fault of a question, or of a text of grants, is told.
-use Rattle.std.specs.Prelude.{◌≡◌, ℕ, List}
+use Rattle.std.specs.Prelude.{◌≡◌, ◌⊎◌, ℕ, List, Option, None}
 use Rattle.queries.specs.declared.fault.QuestionFault.{QuestionFault}
 use Rattle.queries.specs.declared.fault.QuestionFault.TheVariants.{BadValue, Grants}
 use Rattle.queries.specs.declared.fault.QuestionFault.TheVariants as asked
@@ -11,12 +11,13 @@ use Rattle.queries.specs.declared.mds.MdsFault.TheVariants as mds
 use Rattle.queries.specs.declared.comparing.CompareFault.{CompareFault}
 use Rattle.queries.specs.declared.comparing.CompareFault.TheVariants as compared
 use Rattle.queries.specs.Comparing.{IsFaultOfTexts}
+use Rattle.ceph_input.specs.FsNames.{fs_among}
 use Rattle.ceph_input.specs.declared.auth_fault.AuthFault.{AuthFault}
 use Rattle.ceph_input.specs.declared.auth_fault.AuthFault.TheVariants as auths
 use Rattle.ceph_input.specs.declared.keyring_fault.KeyringFault.{KeyringFault}
 use Rattle.ceph_input.specs.declared.keyring_fault.KeyringFault.TheVariants as keyrings
 use Rattle.cli_queries.specs.declared.fault.AnswerFault.{AnswerFault}
-use Rattle.cli_queries.specs.declared.fault.AnswerFault.TheVariants.{Auth, Compare, Keyring, NoForm, NoMemory, NotRead, Question}
+use Rattle.cli_queries.specs.declared.fault.AnswerFault.TheVariants.{Auth, Compare, Keyring, NoForm, NoMemory, NotRead, Question, SeveralFileSystems}
 
 -- want of memory stays that; any other fault is passed on as it is
 abbrev pub fault_of : QuestionFault → AnswerFault
@@ -63,3 +64,7 @@ compare_fault_of compared.NoMemory = NoMemory
 -- what is told is why these two texts are not compared
 abbrev pub TellsOfTexts : List ℕ → List ℕ → AnswerFault → Type 0
 TellsOfTexts before after fault = (found : CompareFault) × (fault ≡ compare_fault_of found) × IsFaultOfTexts before after found
+
+-- why there is no file system of which is asked: none is given of the several that are named, or memory was missing
+abbrev pub IsFaultOfNames : List (List ℕ) → Option (List ℕ) → AnswerFault → Type 0
+IsFaultOfNames names given fault = ((fault ≡ SeveralFileSystems) × (fs_among names given ≡ None)) ⊎ (fault ≡ NoMemory)

@@ -7,4 +7,5 @@ pub mod AuditArgs
 pub mod Logging
 pub mod Matched
 pub mod Files
+pub mod FileSystems
 pub mod Words

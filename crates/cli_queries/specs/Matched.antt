@@ -84,6 +84,7 @@ pub record AreValues (words : List Row) (values : Values) : Type 0 where
   pub group : IsOption words options.Group values.group
   pub mode : IsOption words options.Mode values.mode
   pub access : IsOption words options.Access values.access
+  pub addr : IsGiven words (option_name options.Addr) values.addr
 
 -- the keyring, or else the auth list, of the client that is named; or else standard input, for which `-` stands, or the word itself
 abbrev pub IsSource : List Row → List ℕ → Source → Type 0
@@ -121,10 +122,11 @@ IsTelling words tellings.Line = IsFlag words (codes "more") false × IsFlag word
 pub record IsWhoArgs (words : List Row) (who_args : WhoArgs) : Type 0 where
   pub access : IsOption words options.Access who_args.values.access
   pub path : IsOption words options.Path who_args.values.path
-  pub fs : IsOption words options.Fs who_args.values.fs
+  pub fs : IsGiven words (option_name options.Fs) who_args.values.fs
   pub attr : IsAttr words who_args.values.attr
   pub auth : IsValue words (codes "auth") who_args.auth
   pub telling : IsTelling words who_args.telling
+  pub unread : who_args.named.items ≡ []
 
 -- ---- audit
 
@@ -139,11 +141,11 @@ IsManner words manner = IsDetail words manner.detail × IsShape words manner.sha
 -- the files are named, and none is read yet
 pub record IsAuditArgs (words : List Row) (audit_args : AuditArgs) : Type 0 where
   pub manner : IsManner words audit_args.manner
-  pub fs : IsOption words options.Fs audit_args.fs
+  pub fs : IsGiven words (option_name options.Fs) audit_args.fs
   pub auth : IsValue words (codes "auth") audit_args.files.auth
   pub sessions : IsValue words (codes "sessions") audit_args.files.sessions
   pub tree : IsValue words (codes "tree") audit_args.files.tree
-  pub unread : (audit_args.auth.items ≡ []) × (audit_args.sessions.items ≡ [])
+  pub unread : (audit_args.auth.items ≡ []) × (audit_args.sessions.items ≡ []) × (audit_args.named.items ≡ [])
 
 -- ---- all commands
 

@@ -5,6 +5,7 @@ use crate::caret::point_at;
 use crate::command_line::Invocation;
 use crate::explain_args::Form;
 use crate::fault::AnswerFault;
+use crate::file_systems::{named_by, names_line};
 use crate::status::{FAILED, report};
 use capspec::SpecFaultKind;
 use ceph_input::{AuthFault, ClusterFault, KeyringFault, TreeFault};
@@ -37,9 +38,18 @@ pub fn refuse(
         AnswerFault::Question(QuestionFault::BadValue(option)) if shows_more(invocation) => {
             name_value(alloc, invocation, option, faults);
         }
+        AnswerFault::SeveralFileSystems => name_each(alloc, invocation, faults),
         _ => {}
     }
     status
+}
+
+// Writes the file systems that grants name. Without memory for that nothing is written.
+fn name_each(alloc: Global, invocation: &Invocation, faults: &mut impl Write) {
+    let named = named_by(invocation);
+    if let Ok(line) = names_line(alloc, b"hint: --fs takes one of them: ", named) {
+        let _ = faults.write_all(line.as_slice());
+    }
 }
 
 // Writes the bad value, in quotes where it has to be, and what the option takes. Without memory for that nothing is written.
@@ -67,7 +77,7 @@ fn value_of(invocation: &Invocation, option: Opt) -> &[u8] {
     match invocation {
         Invocation::Explain(explain_args) => asked_value(&explain_args.values, option),
         Invocation::Who(who_args) => attempted_value(&who_args.values, option),
-        Invocation::Audit(audit_args) => audit_args.fs.as_slice(),
+        Invocation::Audit(audit_args) => value_or_none(&audit_args.fs),
         Invocation::Log(fs) => fs.as_slice(),
         _ => b"",
     }
@@ -88,6 +98,10 @@ fn asked_value(values: &Values, option: Opt) -> &[u8] {
         Opt::Group => &values.group,
         Opt::Mode => &values.mode,
         Opt::Access => &values.access,
+        Opt::Addr => match &values.addr {
+            Some(addr) => addr,
+            None => return b"",
+        },
     };
     value.as_slice()
 }
@@ -96,13 +110,21 @@ fn attempted_value(values: &AttemptValues, option: Opt) -> &[u8] {
     let value = match (option, &values.attr) {
         (Opt::Access, _) => &values.access,
         (Opt::Path, _) => &values.path,
-        (Opt::Fs, _) => &values.fs,
+        (Opt::Fs, _) => return value_or_none(&values.fs),
         (Opt::Owner, Some(attr)) => &attr.owner,
         (Opt::Group, Some(attr)) => &attr.group,
         (Opt::Mode, Some(attr)) => &attr.mode,
         _ => return b"",
     };
     value.as_slice()
+}
+
+// A value that may be left out.
+fn value_or_none(value: &Option<Vec<u8>>) -> &[u8] {
+    match value {
+        Some(value) => value.as_slice(),
+        None => b"",
+    }
 }
 
 // What the option takes.
@@ -116,6 +138,8 @@ fn taken_by(option: Opt) -> &'static str {
         Opt::Path => "at most 32 names of at most 255 bytes, with / between them",
         Opt::Mode => "1 to 4 octal digits, or the kind of the inode and 4 of them, as 0100640",
         Opt::Access => "one of read, write, vxattr, snapshot, chmod, chown:N, chgrp:N",
+        Opt::Addr =>
+            "an IPv4 or an IPv6 address, as 10.0.0.1 or fd00::1, without a port or a length",
     }
 }
 

@@ -29,6 +29,8 @@ pub enum AnswerFault {
     Auth(AuthFault),
     /// The file of the auth list can't be opened.
     UnopenedAuth,
+    /// The grants of an auth list name several file systems, and none is given.
+    SeveralFileSystems,
     /// The auth list or the sessions of a cluster are none.
     Cluster(HeldFault),
     /// The tree of a cluster is none.
@@ -57,6 +59,9 @@ impl Display for AnswerFault {
             AnswerFault::Unopened => f.write_str("keyring: Unopened"),
             AnswerFault::Auth(fault) => write!(f, "auth: {fault}"),
             AnswerFault::UnopenedAuth => f.write_str("auth: Unopened"),
+            AnswerFault::SeveralFileSystems => f.write_str(
+                "auth: grants name several file systems, and --fs none",
+            ),
             AnswerFault::Cluster(fault) => Display::fmt(fault, f),
             AnswerFault::Tree(fault) => write!(f, "tree: {fault}"),
             AnswerFault::UnopenedText => f.write_str("cluster: Unopened"),

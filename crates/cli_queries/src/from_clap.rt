@@ -112,6 +112,7 @@ impl Matched<'_, '_> {
             group: self.option(Opt::Group)?,
             mode: self.option(Opt::Mode)?,
             access: self.option(Opt::Access)?,
+            addr: self.given(Opt::Addr.name())?,
         })
     }
 
@@ -177,11 +178,12 @@ impl Matched<'_, '_> {
             values: AttemptValues {
                 access: self.option(Opt::Access)?,
                 path: self.option(Opt::Path)?,
-                fs: self.option(Opt::Fs)?,
+                fs: self.given(Opt::Fs.name())?,
                 attr: self.attr()?,
             },
             auth: self.value(AUTH)?,
             telling: self.telling(),
+            named: Vec::new(self.alloc),
         })
     }
 
@@ -190,7 +192,7 @@ impl Matched<'_, '_> {
     {
         Ok(AuditArgs {
             manner: self.manner(),
-            fs: self.option(Opt::Fs)?,
+            fs: self.given(Opt::Fs.name())?,
             files: ClusterFiles {
                 auth: self.value(AUTH)?,
                 sessions: self.value(SESSIONS)?,
@@ -198,6 +200,7 @@ impl Matched<'_, '_> {
             },
             auth: Vec::new(self.alloc),
             sessions: Vec::new(self.alloc),
+            named: Vec::new(self.alloc),
         })
     }
 

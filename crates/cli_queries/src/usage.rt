@@ -138,9 +138,28 @@ const PATH_HELP: &str =
 const FILE_SYSTEM: Word = Word {
     name: Name::Of(Opt::Fs),
     value: "NAME",
+    help: "The file system of the inode; left out, it is the one that grants of the list name, and has to be given where they name several",
+    kind: Kind::Optional,
+    needs: None,
+    bars: &[],
+};
+
+// The same of a check in a log.
+const CHECKED_FILE_SYSTEM: Word = Word {
+    name: Name::Of(Opt::Fs),
+    value: "NAME",
     help: "The file system of the inode",
     kind: Kind::Usual,
     needs: None,
+    bars: &[],
+};
+
+const ADDRESS: Word = Word {
+    name: Name::Of(Opt::Addr),
+    value: "ADDRESS",
+    help: "The IPv4 or IPv6 address that the client comes from, by which --mds judges the network of a grant; left out, the answer may depend on it",
+    kind: Kind::Optional,
+    needs: Some(Name::Own(MDS)),
     bars: &[],
 };
 
@@ -173,7 +192,7 @@ const JSON_OR_MORE: Word = Word {
     bars: &[Name::Own(MORE)],
 };
 
-const EXPLAIN_WORDS: [Word; 17] = [
+const EXPLAIN_WORDS: [Word; 18] = [
     Word {
         name: Name::Of(Opt::Grants),
         value: "TEXT",
@@ -296,6 +315,7 @@ const EXPLAIN_WORDS: [Word; 17] = [
         bars: &[Name::Own(MORE), Name::Own(JSON)],
     },
     BY_RELEASE,
+    ADDRESS,
 ];
 
 // What stops a script.
@@ -515,7 +535,7 @@ pub(crate) const COMMANDS: [Usage; 9] = [
         name: LOG,
         about: "Reads the log of an MDS from standard input and says what the grants in each check of policy allow, or why not",
         example: LOG_EXAMPLE,
-        words: &[FILE_SYSTEM],
+        words: &[CHECKED_FILE_SYSTEM],
     },
     Usage {
         name: RUN,

@@ -4,6 +4,7 @@ ghost use Rattle.cluster_audit.specs.Audited.{session_of};
 
 use crate::fault::HeldFault;
 use crate::known::{KnownSession, known_sessions};
+use capspec::FsName;
 use ceph_input::{AuthList, ClusterFault, Entity, read_auth, read_sessions};
 use std::alloc::{AllocError, Global};
 use std::marker::Model;
@@ -34,6 +35,7 @@ impl Model for ClusterClients {
 
 impl ClusterClients {
     ghost use Rattle.std.specs.Prelude.{IfOk, IfErr, find, bytes_eq};
+    ghost use Rattle.ceph_input.specs.FsNames.{AreFsNames};
     ghost use Rattle.cluster_audit.specs.Audited.{AreClients, IsFaultOfClients, name_of};
 
     /// The clients that two texts mean: the auth list, as `ceph auth ls -f json` prints it, and the sessions, as `ceph tell mds.N
@@ -49,6 +51,13 @@ impl ClusterClients {
             Ok(sessions) => Ok(ClusterClients { auth, sessions }),
             Err(AllocError) => Err(HeldFault::Sessions(ClusterFault::NoMemory)),
         }
+    }
+
+    /// The names of the file systems that the grants of the auth list name, each once, in their order. Only memory can be missing.
+    pub fn fs_names(&self, alloc: Global) -> Result<Vec<FsName>, AllocError>
+        ensures { IfOk result (λ names. AreFsNames self.now.entities names.items) }
+    {
+        self.auth.fs_names(alloc)
     }
 
     // The sessions, in the order of their text.

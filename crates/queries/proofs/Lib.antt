@@ -1,5 +1,7 @@
 pub mod Pieces
 pub mod FirstBad
+pub mod Addresses
+pub mod GivenNames
 pub mod Spelling
 pub mod TextFault
 pub mod ClientLines

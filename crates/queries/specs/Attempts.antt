@@ -12,7 +12,7 @@ use Rattle.queries.specs.declared.fault.QuestionFault.{QuestionFault}
 use Rattle.queries.specs.declared.fault.QuestionFault.TheVariants as faults
 use Rattle.queries.specs.declared.options.Opt.{Opt}
 use Rattle.queries.specs.declared.options.Opt.TheVariants.{Access, Fs, Group, Mode, Owner, Path}
-use Rattle.queries.specs.Values.{ArePathNames, IsFs, IsModeText}
+use Rattle.queries.specs.Values.{ArePathNames, IsFsIf, IsModeText}
 
 -- the values mean this owner, group and mode
 pub record IsGivenAttr (v : AttrValues) (attr : Attr) : Type 0 where
@@ -28,7 +28,7 @@ IsAttrIf (Some v) None = ⊥
 
 -- the values mean this attempt
 pub record IsAttempt (v : AttemptValues) (a : Attempt) : Type 0 where
-  pub fs : IsFs v.fs.items a.fs
+  pub fs : IsFsIf v.fs a.fs
   pub path : ArePathNames v.path.items a.path
   pub attr : IsAttrIf v.attr a.attr
   pub access : IsAccessWord v.access.items a.access
@@ -45,7 +45,7 @@ IsBadAttrIf None option = ⊥
 IsBadAttrIf (Some v) option = IsBadAttr v option
 
 abbrev pub IsBad : AttemptValues → Opt → Type 0
-IsBad v Fs = (name : List ℕ) → ¬ IsFs v.fs.items name
+IsBad v Fs = (name : Option (List ℕ)) → ¬ IsFsIf v.fs name
 IsBad v Path = (names : List (List ℕ)) → ¬ ArePathNames v.path.items names
 IsBad v Access = (access : AnAccess) → ¬ IsAccessWord v.access.items access
 IsBad v option = IsBadAttrIf v.attr option
@@ -56,6 +56,6 @@ IsFaultOfAttempt v (faults.Grants refused) = ⊥
 IsFaultOfAttempt v (faults.BadValue option) = IsBad v option
 IsFaultOfAttempt v faults.NoMemory = ⊤
 
--- what the attempt wants
-abbrev pub wanted_by : Attempt → Wanted
-wanted_by a = wanted a.fs a.path a.access
+-- what the attempt wants, on this file system
+abbrev pub wanted_by : Attempt → List ℕ → Wanted
+wanted_by a fs = wanted fs a.path a.access

@@ -1,11 +1,11 @@
 -- Which clients of a cluster may make an access.
-use Rattle.std.specs.Prelude.{◌≡◌, ◌⊎◌, ◌||◌, ◌&&◌, ℕ, Bool, true, false, bytes_eq, codes, Option, Some, None, is_some, Ok, List, [], ◌∷◌, ◌++◌, if◌then◌else◌}
+use Rattle.std.specs.Prelude.{◌≡◌, ◌⊎◌, ◌||◌, ◌&&◌, ℕ, Bool, true, false, bytes_eq, codes, Option, Some, None, is_some, List, [], ◌∷◌, ◌++◌, if◌then◌else◌}
 use Rattle.capspec.specs.declared.fault.SpecFault.{SpecFault}
 use Rattle.capspec.specs.declared.grant.Grant.{Grant}
 use Rattle.capspec.specs.Faults.{IsFault}
 use Rattle.capspec.specs.Grants.{Reads}
 use Rattle.capgrant.specs.declared.access.Attr.{Attr}
-use Rattle.ceph_input.specs.Auth.{Named, auth_of, is_client}
+use Rattle.ceph_input.specs.Auth.{Named, is_client}
 use Rattle.policy_analysis.specs.declared.standing.Standing.{Standing}
 use Rattle.policy_analysis.specs.declared.standing.Standing.TheVariants.{Denied}
 use Rattle.policy_analysis.specs.Callers.{Wanted}
@@ -15,7 +15,6 @@ use Rattle.policy_analysis.specs.declared.differences.Otherwise.{Otherwise}
 use Rattle.texts.specs.Standing.{standing_line, standing_otherwise, unread_line}
 use Rattle.texts.specs.Standings.{standing_object, unread_object}
 use Rattle.queries.specs.declared.clients.Telling.{Telling}
-use Rattle.queries.specs.declared.clients.WhoAnswer.{WhoAnswer}
 use Rattle.queries.specs.declared.clients.Telling.TheVariants.{Line, More, Object}
 
 -- what is said of a client, told in this way: a line; or this with one for each difference by which the MDS of Ceph 16 answers somebody
@@ -67,9 +66,3 @@ pub data AreLines (telling : Telling) (w : Wanted) (attr : Option Attr) : List N
   client : {e : Named} {es : List Named} (judged others : Bool) (line lines : List ℕ) → is_told e ≡ true → Says telling w attr e.name e.caps judged line → AreLines telling w attr es others lines
       → AreLines telling w attr (e ∷ es) (judged && others) (line ++ lines)
   another : {e : Named} {es : List Named} {others : Bool} {lines : List ℕ} → is_told e ≡ false → AreLines telling w attr es others lines → AreLines telling w attr (e ∷ es) others lines
-
--- the lines are those of the auth list that the text is
-pub record AnswersWho (telling : Telling) (w : Wanted) (attr : Option Attr) (text : List ℕ) (answer : WhoAnswer) : Type 0 where
-  pub list : List Named
-  pub means : auth_of text ≡ Some (Ok list)
-  pub lines_are : AreLines telling w attr list answer.judges_all answer.lines.items

@@ -1,5 +1,5 @@
 -- What the MDS of a release says to what values ask.
-use Rattle.std.specs.Prelude.{◌≡◌, ⊤, ℕ, Bool, true, false, ◌&&◌, Option, None, Ok, Err, List, if◌then◌else◌}
+use Rattle.std.specs.Prelude.{◌≡◌, ⊤, ℕ, Bool, true, false, ◌&&◌, Option, None, option_map, Ok, Err, List, if◌then◌else◌}
 use Rattle.capgrant.specs.declared.access.Access.{Access}
 use Rattle.capgrant.specs.declared.access.Access.TheVariants.{Read, SetVxattr, Snapshot}
 use Rattle.capgrant.specs.Question.{Question as Asked}
@@ -11,6 +11,7 @@ use Rattle.release_rules.specs.declared.verdict.Verdict.{Verdict}
 use Rattle.release_rules.specs.declared.verdict.Verdict.TheVariants.{Allowed, CannotMount}
 use Rattle.release_rules.specs.Asked.{asked_for}
 use Rattle.release_rules.specs.Clients.{client_refuses}
+use Rattle.release_rules.specs.Networks.{address_of}
 use Rattle.release_rules.specs.Question.{Question}
 use Rattle.release_rules.specs.Reading.{read_of}
 use Rattle.release_rules.specs.Releases.{switches_of}
@@ -35,9 +36,9 @@ IsMdsFault release text faults.NoMemory = ⊤
 
 -- ---- the answer
 
--- what is asked of an MDS, which is asked for this; the address of the client is not told
+-- what is asked of an MDS, which is asked for this
 abbrev pub mds_question : Asking → AskedFor → Question
-mds_question a asked = record { fs = a.fs; caller = a.caller; path = a.path; attr = a.attr; asked = asked; address = None }
+mds_question a asked = record { fs = a.fs; caller = a.caller; path = a.path; attr = a.attr; asked = asked; address = option_map address_of a.address }
 
 -- the access changes attributes, as a client checks it before it asks; to write may be to change the size or the times
 abbrev pub changes_attributes : Access → Bool

@@ -1,11 +1,11 @@
 -- The options of `explain`.
 use Rattle.std.specs.Prelude.{ℕ, List, [], ◌∷◌, codes}
 use Rattle.queries.specs.declared.options.Opt.{Opt}
-use Rattle.queries.specs.declared.options.Opt.TheVariants.{Access, Fs, Gid, Grants, Group, Groups, Mode, Owner, Path, Uid}
+use Rattle.queries.specs.declared.options.Opt.TheVariants.{Access, Addr, Fs, Gid, Grants, Group, Groups, Mode, Owner, Path, Uid}
 
 -- every option but the grants, in the order in which their values are tested
 abbrev pub asking_options : List Opt
-asking_options = Fs ∷ Uid ∷ Gid ∷ Groups ∷ Path ∷ Owner ∷ Group ∷ Mode ∷ Access ∷ []
+asking_options = Fs ∷ Uid ∷ Gid ∷ Groups ∷ Path ∷ Owner ∷ Group ∷ Mode ∷ Access ∷ Addr ∷ []
 
 -- every option, in that order
 abbrev pub all_options : List Opt
@@ -23,3 +23,4 @@ option_name Owner = codes "owner"
 option_name Group = codes "group"
 option_name Mode = codes "mode"
 option_name Access = codes "access"
+option_name Addr = codes "addr"

@@ -1,5 +1,6 @@
 -- A question on the command line, and its answer.
-use Rattle.std.specs.Prelude.{◌≡◌, ◌≢◌, ℕ, List, ◌∷◌, ◌++◌, All}
+use Rattle.std.specs.Prelude.{◌≡◌, ◌≢◌, ℕ, Option, List, ◌∷◌, ◌++◌, All}
+use Rattle.std.specs.declared.net.ip_addr.IpAddr.{IpAddr}
 use Rattle.capbits.specs.declared.caller.Caller.{Caller}
 use Rattle.capspec.specs.declared.grant.Grant.{Grant}
 use Rattle.capspec.specs.Faults.{IsFault}
@@ -13,16 +14,16 @@ use Rattle.capgrant.specs.Verdict.{verdict_of}
 use Rattle.queries.specs.declared.fault.QuestionFault.{QuestionFault}
 use Rattle.queries.specs.declared.fault.QuestionFault.TheVariants as faults
 use Rattle.queries.specs.declared.options.Opt.{Opt}
-use Rattle.queries.specs.declared.options.Opt.TheVariants.{Access, Fs, Gid, Grants, Group, Groups, Mode, Owner, Path, Uid}
+use Rattle.queries.specs.declared.options.Opt.TheVariants.{Access, Addr, Fs, Gid, Grants, Group, Groups, Mode, Owner, Path, Uid}
 use Rattle.queries.specs.declared.question.Values.{Values}
 use Rattle.queries.specs.declared.question.Asking.{Asking}
 use Rattle.queries.specs.declared.question.Question.{Question}
 use Rattle.texts.specs.Access.{IsAccessWord}
 use Rattle.texts.specs.Explaining.{explain_text}
 use Rattle.queries.specs.Options.{all_options, asking_options}
-use Rattle.queries.specs.Values.{AreGroupsIf, ArePathNames, IsFs, IsModeText}
+use Rattle.queries.specs.Values.{AreGroupsIf, ArePathNames, IsAddressIf, IsFs, IsModeText}
 
--- the values ask the question
+-- the values ask the question; an address that is given is one, though the rules of this server don't ask for it
 pub record AsksFor (v : Values) (q : Question) : Type 0 where
   pub grants : Reads v.grants.items q.grants
   pub fs : IsFs v.fs.items q.fs
@@ -34,6 +35,7 @@ pub record AsksFor (v : Values) (q : Question) : Type 0 where
   pub group : IsNumber v.group.items q.attr.gid
   pub mode : IsModeText v.mode.items q.attr.mode
   pub access : IsAccessWord v.access.items q.access
+  pub address : (address : Option IpAddr) × IsAddressIf v.addr address
 
 -- they ask this, whatever the grants
 pub record Asks (v : Values) (a : Asking) : Type 0 where
@@ -46,6 +48,7 @@ pub record Asks (v : Values) (a : Asking) : Type 0 where
   pub group : IsNumber v.group.items a.attr.gid
   pub mode : IsModeText v.mode.items a.attr.mode
   pub access : IsAccessWord v.access.items a.access
+  pub address : IsAddressIf v.addr a.address
 
 -- the values name the caller
 abbrev pub IsCaller : Values → Caller → Type 0
@@ -67,6 +70,7 @@ IsGood v Owner = (uid : ℕ) × IsNumber v.owner.items uid
 IsGood v Group = (gid : ℕ) × IsNumber v.group.items gid
 IsGood v Mode = (mode : ℕ) × IsModeText v.mode.items mode
 IsGood v Access = (access : AnAccess) × IsAccessWord v.access.items access
+IsGood v Addr = (address : Option IpAddr) × IsAddressIf v.addr address
 
 -- of these options, its value is the first that means nothing
 pub record IsFirstBad (v : Values) (options : List Opt) (option : Opt) : Type 0 where

@@ -29,6 +29,7 @@ pub record AreValues (name : List ℕ) (check : CheckTexts) (v : Values) : Type 
   pub group : v.group.items ≡ check.inode.group
   pub mode : v.mode.items ≡ check.inode.mode
   pub access : v.access.items ≡ codes "read"
+  pub addr : v.addr ≡ None
 
 -- the same question of another access
 abbrev pub with_access : Question → Access → Question

@@ -1,5 +1,6 @@
 //! What `who` is asked.
-ghost use Rattle.std.specs.Prelude.{◌≡◌, IfOk, IfErr};
+ghost use Rattle.std.specs.Prelude.{◌≡◌, ℕ, List, Option, IfOk, IfErr, MatchResult};
+ghost use Rattle.queries.specs.Values.{IsFsIf};
 ghost use Rattle.queries.specs.declared.options.Opt.{Opt as AnOpt};
 ghost use Rattle.queries.specs.Attempts.{IsAttempt, IsAttrIf, IsBadAttr, IsBadAttrIf, IsFaultOfAttempt, IsGivenAttr};
 
@@ -19,8 +20,8 @@ pub struct AttemptValues {
     pub access: Vec<u8>,
     /// The place of the inode: at most 32 names of at most 255 bytes, with slashes between them.
     pub path: Vec<u8>,
-    /// The name of the inode's file system.
-    pub fs: Vec<u8>,
+    /// The name of the inode's file system, if it is given.
+    pub fs: Option<Vec<u8>>,
     /// Whose the inode is, and its mode, if that is given.
     pub attr: Option<AttrValues>,
 }
@@ -60,8 +61,8 @@ impl Drop for AttrValues {
 
 /// What somebody may want to do.
 pub struct Attempt {
-    /// The file system of the inode.
-    pub fs: FsName,
+    /// The file system of the inode, if it is given.
+    pub fs: Option<FsName>,
     /// The inode's path.
     pub path: TreePath,
     /// The inode's owner, group and mode, where they are known.
@@ -88,7 +89,7 @@ impl Attempt {
         ensures ok { IfOk result (IsAttempt values.now) }
         ensures err { IfErr result (IsFaultOfAttempt values.now) }
     {
-        let fs = FsName::read(values.fs.as_slice()).ok_or(BadValue(Opt::Fs))?;
+        let fs = read_given_fs(&values.fs)?;
         let path = read_path(alloc, values.path.as_slice())?;
         let attr = read_given_attr(&values.attr)?;
         let access = read_access(values.access.as_slice()).ok_or(BadValue(Opt::Access))?;
@@ -101,6 +102,20 @@ impl Attempt {
             }),
             None => Err(QuestionFault::NoMemory),
         }
+    }
+}
+
+/// The name of a file system, where it is given.
+pub fn read_given_fs(fs: &Option<Vec<u8>>) -> Result<Option<FsName>, QuestionFault>
+    ensures { MatchResult result (IsFsIf fs.now) (λ fault.
+        (fault ≡ QuestionFault.BadValue Opt.Fs) × ((name : Option (List ℕ)) → ¬ IsFsIf fs.now name)) }
+{
+    let Some(text) = fs else {
+        return Ok(None);
+    };
+    match FsName::read(text.as_slice()) {
+        Some(name) => Ok(Some(name)),
+        None => Err(BadValue(Opt::Fs)),
     }
 }
 

@@ -1,14 +1,13 @@
 //! Which clients of a cluster may make an access.
-ghost use Rattle.std.specs.Prelude.{◌≡◌, ◌++◌, ℕ, List, IfOk, IfErr, OnOk};
-ghost use Rattle.ceph_input.specs.Auth.{IsFaultOf, auth_of};
+ghost use Rattle.std.specs.Prelude.{◌≡◌, ◌++◌, ℕ, List, IfOk, OnOk};
 ghost use Rattle.queries.specs.Attempts.{wanted_by};
-ghost use Rattle.queries.specs.Clients.{AnswersWho, AreLines, Says, is_told, meant, standing_in, unread_in};
+ghost use Rattle.queries.specs.Clients.{AreLines, Says, is_told, meant, standing_in, unread_in};
 
 use crate::attempt::Attempt;
 use crate::grant_text::read_text;
 use capgrant::Attr;
-use capspec::SpecFault;
-use ceph_input::{AuthFault, Entity, read_auth};
+use capspec::{FsName, SpecFault};
+use ceph_input::{AuthList, Entity};
 use policy_analysis::{Otherwise, Standing, Wanted};
 use std::alloc::{AllocError, Global};
 use texts::{
@@ -55,25 +54,24 @@ impl Drop for WhoAnswer {
 
 /// For each client of an auth list, and each other entity with grants for the MDS, in its order: whether somebody behind its key may do what is
 /// asked, by which grant, or why nobody may; or that it depends on owner, group and mode, where these are not given. Where a client's grants can't
-/// be read, its line says why. The fault is that of the list. `auth` is what `ceph auth ls -f json` prints.
+/// be read, its line says why. The inode is one of this file system. Only memory can be missing.
 pub fn who_lines(
     alloc: Global,
-    auth: &[u8],
+    list: &AuthList,
+    fs: &FsName,
     attempt: &Attempt,
     telling: Telling,
-) -> Result<WhoAnswer, AuthFault>
-    ensures ok { IfOk result (AnswersWho telling (wanted_by attempt.now) attempt.now.attr auth.now) }
-    ensures err { IfErr result (λ fault. IsFaultOf fault (auth_of auth.now)) }
+) -> Result<WhoAnswer, AllocError>
+    ensures { IfOk result (λ answer. AreLines telling (wanted_by attempt.now fs.now) attempt.now.attr list.now answer.judges_all answer.lines.items) }
 {
-    let list = read_auth(alloc, auth)?;
     let names = attempt.path.names(alloc)?;
     let wanted = Wanted {
-        fs: &attempt.fs,
+        fs,
         path: names.as_slice(),
         access: attempt.access,
     };
     let clients = list.entities();
-    Ok(client_lines(alloc, clients, &wanted, &attempt.attr, telling)?)
+    client_lines(alloc, clients, &wanted, &attempt.attr, telling)
 }
 
 // The lines of those of whom is told.

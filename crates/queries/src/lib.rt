@@ -26,7 +26,7 @@ mod remarks;
 mod values;
 mod words;
 
-pub use attempt::{Attempt, AttemptValues, AttrValues};
+pub use attempt::{Attempt, AttemptValues, AttrValues, read_given_fs};
 pub use clients::{Telling, WhoAnswer, who_lines};
 pub use comparing::{CompareFault, compare};
 pub use fault::QuestionFault;

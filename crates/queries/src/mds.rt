@@ -108,7 +108,7 @@ impl Asking {
             path: &self.path,
             attr: &self.attr,
             asked,
-            address: None,
+            address: self.address,
         }
     }
 

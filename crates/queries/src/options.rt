@@ -28,6 +28,8 @@ pub enum Opt {
     Mode,
     /// What is asked for.
     Access,
+    /// The address that the client comes from.
+    Addr,
 }
 
 impl Opt {
@@ -49,6 +51,7 @@ impl Opt {
             Opt::Group => "group",
             Opt::Mode => "mode",
             Opt::Access => "access",
+            Opt::Addr => "addr",
         }
     }
 }

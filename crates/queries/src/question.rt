@@ -1,11 +1,12 @@
 //! What the values of options ask.
-ghost use Rattle.std.specs.Prelude.{◌≡◌, ℕ, List, IfOk, OnOk, IfErr, IfSome, MatchResult};
+ghost use Rattle.std.specs.Prelude.{◌≡◌, ℕ, List, Option, IfOk, OnOk, IfErr, IfSome, MatchResult};
+ghost use Rattle.std.specs.declared.net.ip_addr.IpAddr.{IpAddr as AnAddress};
 ghost use Rattle.capspec.specs.declared.fault.SpecFault.{SpecFault as ASpecFault};
 ghost use Rattle.capspec.specs.declared.grant.Grant.{Grant as AGrant};
 ghost use Rattle.capspec.specs.Faults.{IsFault};
 ghost use Rattle.capspec.specs.Grants.{Reads};
 ghost use Rattle.capspec.specs.Items.{IsNumber};
-ghost use Rattle.queries.specs.Values.{AreGroupsIf, ArePathNames};
+ghost use Rattle.queries.specs.Values.{AreGroupsIf, ArePathNames, IsAddressIf};
 
 use crate::fault::QuestionFault;
 use crate::fault::QuestionFault::BadValue;
@@ -16,7 +17,9 @@ use crate::options::Opt;
 use capbits::{Caller, Groups, read_u32};
 use capgrant::{Access, Attr, Verdict, verdict};
 use capspec::{FsName, Grants, TreePath};
+use release_rules::read_address;
 use std::alloc::{AllocError, Global};
+use std::net::IpAddr;
 use texts::{explain_line, read_access};
 
 /// The values of the options as they stand on the command line, as bytes.
@@ -41,6 +44,8 @@ pub struct Values {
     pub mode: Vec<u8>,
     /// What is asked for: a word that `read_access` reads.
     pub access: Vec<u8>,
+    /// The address that the client comes from, if it is given: an IPv4 or an IPv6 address.
+    pub addr: Option<Vec<u8>>,
 }
 
 // Not derived: so the proof of a function that drops one has a single call there.
@@ -57,6 +62,7 @@ impl Drop for Values {
             group: _,
             mode: _,
             access: _,
+            addr: _,
         } = self;
     }
 }
@@ -75,6 +81,8 @@ pub struct Asking {
     pub attr: Attr,
     /// What is asked for.
     pub access: Access,
+    /// The address that the client comes from, where it is told. The rules of this server do not ask for it.
+    pub address: Option<IpAddr>,
 }
 
 /// Whether these grants let a caller make an access to an inode.
@@ -152,6 +160,7 @@ impl Asking {
         let path = read_path(alloc, values.path.as_slice())?;
         let attr = values.read_attr()?;
         let access = read_access(values.access.as_slice()).ok_or(BadValue(Opt::Access))?;
+        let address = read_given_address(&values.addr)?;
         match path {
             Some(path) => Ok(Asking {
                 fs,
@@ -159,6 +168,7 @@ impl Asking {
                 path,
                 attr,
                 access,
+                address,
             }),
             None => Err(QuestionFault::NoMemory),
         }
@@ -183,6 +193,7 @@ impl Question {
             path,
             attr,
             access,
+            address: _,
         } = Asking::read(alloc, values)?;
         match grants {
             Some(grants) => Ok(Question {
@@ -270,5 +281,19 @@ fn read_given_groups(groups: &Option<Vec<u8>>) -> Result<Groups, QuestionFault>
     match groups {
         Some(text) => read_groups(text.as_slice()).ok_or(BadValue(Opt::Groups)),
         None => Ok(Groups::new()),
+    }
+}
+
+// The address that is given, or none.
+fn read_given_address(addr: &Option<Vec<u8>>) -> Result<Option<IpAddr>, QuestionFault>
+    ensures { MatchResult result (IsAddressIf addr.now) (λ fault.
+        (fault ≡ QuestionFault.BadValue Opt.Addr) × ((address : Option AnAddress) → ¬ IsAddressIf addr.now address)) }
+{
+    let Some(text) = addr else {
+        return Ok(None);
+    };
+    match read_address(text.as_slice()) {
+        Some(address) => Ok(Some(address)),
+        None => Err(BadValue(Opt::Addr)),
     }
 }

@@ -9,7 +9,8 @@ use std::alloc::{AllocError, Global};
 
 /// No values: they are there to be filled.
 pub fn no_values(alloc: Global) -> Values
-    ensures { result.groups ≡ None }
+    ensures groups { result.groups ≡ None }
+    ensures addr { result.addr ≡ None }
 {
     Values {
         grants: Vec::new(alloc),
@@ -22,13 +23,15 @@ pub fn no_values(alloc: Global) -> Values
         group: Vec::new(alloc),
         mode: Vec::new(alloc),
         access: Vec::new(alloc),
+        addr: None,
     }
 }
 
 /// Puts the parts of a check in the place of the values, with the name of the file system, and to read for the access. Only memory can
 /// be missing.
 pub fn fill(values: &mut Values, fs: &[u8], check: &Check<'_>) -> Result<(), AllocError>
-    requires { values.old.groups ≡ None }
+    requires groups { values.old.groups ≡ None }
+    requires addr { values.old.addr ≡ None }
     ensures { OnOk result (AreValues fs.now (texts_of check.now) values.new) }
 {
     put(&mut values.grants, check.grants)?;

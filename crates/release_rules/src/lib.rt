@@ -27,7 +27,7 @@ pub use flags::Flags;
 pub use forms::{NoForm, mds_form};
 pub use grant::{GidList, Grant, Grants, Text};
 pub use judging::{client_refuses, is_for_everything, may_mount, mds_verdict};
-pub use network::writes_network;
+pub use network::{read_address, writes_network};
 pub use paths::directory_of;
 pub use question::{Question, user_of};
 pub use reading::{Unread, read_grants};

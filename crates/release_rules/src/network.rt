@@ -69,7 +69,8 @@ fn bits_behind(text: &[u8]) -> Option<u32>
     }
 }
 
-fn read_address(text: &[u8]) -> Option<IpAddr>
+/// The address that a whole text writes, as `10.0.0.1` or `fd00::1`.
+pub fn read_address(text: &[u8]) -> Option<IpAddr>
     ensures { option_map address_of result ≡ address_in text.now }
 {
     IpAddr::parse_ascii(text).ok()

@@ -1,4 +1,4 @@
-use Rattle.std.proofs.Common.{ℕ, List, refl, subst}
+use Rattle.std.proofs.Common.{rules, ℕ, List, refl, subst}
 use Rattle.capspec.specs.Faults.{IsFault}
 use Rattle.queries.proofs.FirstBad.{bad_asking, bad_grants, good_grants, handed_on}
 use Rattle.queries.proofs.question.Question.read.Goals as goal
@@ -12,3 +12,19 @@ pub returns-in_err-fs-clause-err : goal.returns-in_err-fs-clause-err
 returns-in_err-fs-clause-err c =
     let v = c.args.values.now in
     bad_asking v c.in_err-fs.field-0.0 _ (good_grants v c.as_slice.result.now c.as_slice.ensures.value c.in_ok-grants.ensures.good) c.in_err-fs.ensures.err (handed_on _ _ _ c.from_residual-in_err-fs.ensures.1 refl)
+
+pub returns-in-Some-clause-ok : goal.returns-in-Some-clause-ok
+returns-in-Some-clause-ok c =
+    let asks = c.in_ok-fs.ensures.ok in record {
+      grants = search rules;
+      fs = asks.fs;
+      uid = asks.uid;
+      gid = asks.gid;
+      groups = asks.groups;
+      path = asks.path;
+      owner = asks.owner;
+      group = asks.group;
+      mode = asks.mode;
+      access = asks.access;
+      address = (c.in_ok-fs.field-0.address, asks.address);
+    }
