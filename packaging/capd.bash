@@ -26,7 +26,7 @@ _capd() {
     elif [[ ${COMP_WORDS[1]} == audit ]]; then
         mapfile -t COMPREPLY < <(compgen -W '--auth --sessions --tree --rule --json --fs --help' -- "$word")
     elif [[ ${COMP_WORDS[1]} == who ]]; then
-        mapfile -t COMPREPLY < <(compgen -W '--auth --fs --owner --group --mode --more --json --help' -- "$word")
+        mapfile -t COMPREPLY < <(compgen -W '--auth --fs --owner --group --mode --mds --more --json --help' -- "$word")
     else
         mapfile -t COMPREPLY < <(compgen -W '--grants --keyring --auth --client --fs --uid --gid --groups --path --owner --group --mode --access --mds --addr --more --quiet --json --help' -- "$word")
     fi

@@ -15,7 +15,7 @@ use Rattle.texts.specs.ScriptLines.{longest_script}
 use Rattle.queries.specs.declared.attempt.Attempt.{Attempt}
 use Rattle.queries.specs.declared.clients.WhoAnswer.{WhoAnswer}
 use Rattle.queries.specs.Attempts.{IsAttempt, wanted_by}
-use Rattle.queries.specs.Clients.{AreLines}
+use Rattle.queries.specs.Clients.{AnswersWho}
 use Rattle.cli_queries.specs.FileSystems.{AreNamedIn}
 use Rattle.cli_queries.specs.WhoArgs.{AnswersWhoArgs, ReportsWho, StopsWhoArgs}
 use Rattle.cli_queries.proofs.FileSystems.{none_given}
@@ -52,7 +52,7 @@ module _ (who_args : WhoArgs) (input left : Option (List ℕ)) (auth : List ℕ)
 
     -- what is told of it was written
     pub told : (old new : Option (List ℕ)) (fs : List ℕ) (answer : WhoAnswer) (status : ℕ) (Fine : Type 0) (result : Result ℕ AnswerFault) → length auth ≤ longest_script → fs_among names attempt.fs ≡ Some fs
-        → AreLines who_args.telling (wanted_by attempt fs) attempt.attr list answer.judges_all answer.lines.items → status ≡ (if answer.judges_all then 0 else 3)
+        → AnswersWho who_args.telling (wanted_by attempt fs) attempt.attr who_args.mds list answer → status ≡ (if answer.judges_all then 0 else 3)
         → IfOk result (λ said. said ≡ status) → OnOk result (Fine × Appends old new answer.lines.items) → IfOk result (λ said. AnswersWhoArgs who_args input said old new)
     told old new fs answer status Fine (Err fault) short asked lines is same written = tt
     told old new fs answer status Fine (Ok said) short asked lines is same written = record {

@@ -127,6 +127,7 @@ pub record IsWhoArgs (words : List Row) (who_args : WhoArgs) : Type 0 where
   pub auth : IsValue words (codes "auth") who_args.auth
   pub telling : IsTelling words who_args.telling
   pub unread : who_args.named.items ≡ []
+  pub mds : IsMds words who_args.mds
 
 -- ---- audit
 

@@ -9,7 +9,7 @@ use Rattle.queries.specs.declared.attempt.Attempt.{Attempt}
 use Rattle.queries.specs.declared.clients.WhoAnswer.{WhoAnswer}
 use Rattle.queries.specs.declared.fault.QuestionFault.{QuestionFault}
 use Rattle.queries.specs.Attempts.{IsAttempt, IsFaultOfAttempt, wanted_by}
-use Rattle.queries.specs.Clients.{AreLines}
+use Rattle.queries.specs.Clients.{AnswersWho}
 use Rattle.cli_queries.specs.declared.fault.AnswerFault.{AnswerFault}
 use Rattle.cli_queries.specs.declared.fault.AnswerFault.TheVariants.{SeveralFileSystems, WriteFailed}
 use Rattle.cli_queries.specs.declared.who_args.WhoArgs.{WhoArgs}
@@ -31,7 +31,7 @@ pub record ReportsWho (who_args : WhoArgs) (attempt : Attempt) (auth : List ℕ)
   pub means : auth_of auth ≡ Some (Ok list)
   pub named : AreFsNames list names
   pub asked : fs_among names attempt.fs ≡ Some fs
-  pub lines_are : AreLines who_args.telling (wanted_by attempt fs) attempt.attr list answer.judges_all answer.lines.items
+  pub lines_are : AnswersWho who_args.telling (wanted_by attempt fs) attempt.attr who_args.mds list answer
   pub written : WritesWho answer status old new
 
 -- the same of the text that was to be read, by what the values ask

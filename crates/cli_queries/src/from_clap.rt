@@ -184,6 +184,7 @@ impl Matched<'_, '_> {
             auth: self.value(AUTH)?,
             telling: self.telling(),
             named: Vec::new(self.alloc),
+            mds: self.mds()?,
         })
     }
 

@@ -395,7 +395,7 @@ const LINT_WORDS: [Word; 3] = [
     },
 ];
 
-const WHO_WORDS: [Word; 9] = [
+const WHO_WORDS: [Word; 10] = [
     Word {
         name: Name::Of(Opt::Access),
         value: "ACCESS",
@@ -454,6 +454,7 @@ const WHO_WORDS: [Word; 9] = [
         bars: &[],
     },
     JSON_OR_MORE,
+    BY_RELEASE,
 ];
 
 const AUDIT_WORDS: [Word; 6] = [

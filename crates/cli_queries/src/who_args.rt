@@ -11,6 +11,7 @@ use crate::status::{DONE, FOUND};
 use capspec::FsName;
 use ceph_input::read_auth;
 use queries::{Attempt, AttemptValues, Telling, WhoAnswer, who_lines};
+use release_rules::Release;
 use std::alloc::Global;
 use std::io::{Read, Write};
 use texts::{Watched, read_script};
@@ -25,6 +26,8 @@ pub struct WhoArgs {
     pub telling: Telling,
     /// The file systems that grants of the list name; none until `who` has read it.
     pub named: Vec<FsName>,
+    /// The release by whose rules is answered; this server's where there is none.
+    pub mds: Option<Release>,
 }
 
 // Not derived: so the proof of a function that drops one has a single call there.
@@ -35,6 +38,7 @@ impl Drop for WhoArgs {
             auth: _,
             telling: _,
             named: _,
+            mds: _,
         } = self;
     }
 }
@@ -64,7 +68,14 @@ pub fn who<R: Read, W: Write>(
     let list = read_auth(alloc, auth.as_slice())?;
     who_args.named = list.fs_names(alloc)?;
     let fs = fs_asked(who_args.named.as_slice(), &attempt.fs)?;
-    let answer = who_lines(alloc, &list, &fs, &attempt, who_args.telling)?;
+    let answer = who_lines(
+        alloc,
+        &list,
+        &fs,
+        &attempt,
+        who_args.mds,
+        who_args.telling,
+    )?;
     let status = status_of(&answer);
     write_text(answer.lines.as_slice(), status, writer)
 }

@@ -34,3 +34,5 @@ pub mod Reported
 pub mod Odd
 pub mod Alike
 pub mod Listed
+pub mod StandsFor
+pub mod Picked

@@ -12,7 +12,9 @@ pub mod Left
 pub mod Differences
 pub mod Callers
 pub mod Standing
+pub mod MdsStanding
 pub mod Otherwise
 pub mod Releases
 pub mod Oddities
 pub mod Refusals
+pub mod StandsFor

@@ -32,8 +32,8 @@ fn user_of(grant: &Grant) -> u32
     grant.uid.unwrap_or(1)
 }
 
-// A gid that is neither root's nor this one.
-fn beside(gid: u32) -> u32
+/// A gid that is neither root's nor this one.
+pub(crate) fn beside(gid: u32) -> u32
     ensures { result ≡ beside gid }
 {
     if gid == 1 { 2 } else { 1 }

@@ -14,9 +14,13 @@ use Rattle.queries.specs.Clients.{AreLines, Says, is_told, meant, standing_in}
 use Rattle.queries.specs.Clients.AreLines.{another, client, no_more}
 use Rattle.queries.specs.declared.clients.Telling.{Telling}
 
+-- what is said of a client by the text of its grants, and whether it could be judged
+abbrev pub Saying : Type 1
+Saying = List ℕ → Option (List ℕ) → Bool → List ℕ → Type 0
+
 -- with the lines of the others behind it the text is that of all, of whom as many could be judged
-abbrev pub IsBegun : Telling → Wanted → Option Attr → List Named → ℕ → Bool → List ℕ → Type 0
-IsBegun telling w attr es i judged text = (others : Bool) (rest : List ℕ) → AreLines telling w attr (drop i es) others rest → AreLines telling w attr es (judged && others) (text ++ rest)
+abbrev pub IsBegun : Saying → List Named → ℕ → Bool → List ℕ → Type 0
+IsBegun say es i judged text = (others : Bool) (rest : List ℕ) → AreLines say (drop i es) others rest → AreLines say es (judged && others) (text ++ rest)
 
 one_by_one : (a b c : Bool) → ((a && b) && c) ≡ (a && (b && c))
 one_by_one true b c = refl
@@ -33,29 +37,29 @@ both before this all is same = rw is same
 pub not_all : (before this all : Bool) → before ≡ false → all ≡ before → all ≡ (before && this)
 not_all before this all is same = same ∙ is ∙ sym (ap (λ (b : Bool). b && this) is)
 
-module _ (telling : Telling) (w : Wanted) (attr : Option Attr) (es : List Named) (i : ℕ) (e : Named) (judged : Bool) (text : List ℕ) (inside : i < length es) (is : e ≡ get_or es i e) (begun : IsBegun telling w attr es i judged text) where
+module _ (say : Saying) (es : List Named) (i : ℕ) (e : Named) (judged : Bool) (text : List ℕ) (inside : i < length es) (is : e ≡ get_or es i e) (begun : IsBegun say es i judged text) where
   here : drop i es ≡ e ∷ drop (i + 1) es
   here = drop_more es i e inside ∙ ap (λ (x : Named). x ∷ drop (i + 1) es) (sym is)
 
-  pub one_line : (this now : Bool) (line after : List ℕ) → is_told e ≡ true → Says telling w attr e.name e.caps this line → after ≡ text ++ line → now ≡ (judged && this) → IsBegun telling w attr es (i + 1) now after
+  pub one_line : (this now : Bool) (line after : List ℕ) → is_told e ≡ true → say e.name e.caps this line → after ≡ text ++ line → now ≡ (judged && this) → IsBegun say es (i + 1) now after
   one_line this now line after one says longer all others rest lines =
       let texts : after ++ rest ≡ text ++ (line ++ rest) = ap (λ (t : List ℕ). t ++ rest) longer ∙ append_assoc text line rest in
       let flags : (now && others) ≡ (judged && (this && others)) = ap (λ (b : Bool). b && others) all ∙ one_by_one judged this others in
-      subst (λ (b : Bool). AreLines telling w attr es b (after ++ rest)) (sym flags)
-      (subst (λ (t : List ℕ). AreLines telling w attr es (judged && (this && others)) t) (sym texts)
-      (begun (this && others) (line ++ rest) (subst (λ (xs : List Named). AreLines telling w attr xs (this && others) (line ++ rest)) (sym here) (client this others line rest one says lines))))
+      subst (λ (b : Bool). AreLines say es b (after ++ rest)) (sym flags)
+      (subst (λ (t : List ℕ). AreLines say es (judged && (this && others)) t) (sym texts)
+      (begun (this && others) (line ++ rest) (subst (λ (xs : List Named). AreLines say xs (this && others) (line ++ rest)) (sym here) (client this others line rest one says lines))))
 
-  pub no_line : (now : Bool) (after : List ℕ) → is_told e ≡ false → after ≡ text → now ≡ judged → IsBegun telling w attr es (i + 1) now after
+  pub no_line : (now : Bool) (after : List ℕ) → is_told e ≡ false → after ≡ text → now ≡ judged → IsBegun say es (i + 1) now after
   no_line now after none same all others rest lines =
-      subst (λ (b : Bool). AreLines telling w attr es (b && others) (after ++ rest)) (sym all)
-      (subst (λ (t : List ℕ). AreLines telling w attr es (judged && others) (t ++ rest)) (sym same)
-      (begun others rest (subst (λ (xs : List Named). AreLines telling w attr xs others rest) (sym here) (another none lines))))
+      subst (λ (b : Bool). AreLines say es (b && others) (after ++ rest)) (sym all)
+      (subst (λ (t : List ℕ). AreLines say es (judged && others) (t ++ rest)) (sym same)
+      (begun others rest (subst (λ (xs : List Named). AreLines say xs others rest) (sym here) (another none lines))))
 
-pub all_lines : (telling : Telling) (w : Wanted) (attr : Option Attr) (es : List Named) (i : ℕ) (judged : Bool) (text : List ℕ) → length es ≤ i → IsBegun telling w attr es i judged text → AreLines telling w attr es judged text
-all_lines telling w attr es i judged text end begun =
-    subst (λ (b : Bool). AreLines telling w attr es b text) (and_true judged)
-    (subst (λ (t : List ℕ). AreLines telling w attr es (judged && true) t) (append-nil text)
-    (begun true [] (subst (λ (xs : List Named). AreLines telling w attr xs true []) (sym (drop_all i es end)) no_more)))
+pub all_lines : (say : Saying) (es : List Named) (i : ℕ) (judged : Bool) (text : List ℕ) → length es ≤ i → IsBegun say es i judged text → AreLines say es judged text
+all_lines say es i judged text end begun =
+    subst (λ (b : Bool). AreLines say es b text) (and_true judged)
+    (subst (λ (t : List ℕ). AreLines say es (judged && true) t) (append-nil text)
+    (begun true [] (subst (λ (xs : List Named). AreLines say xs true []) (sym (drop_all i es end)) no_more)))
 
 -- grants that could be read
 pub judged_line : (telling : Telling) (w : Wanted) (attr : Option Attr) (name : List ℕ) (caps : Option (List ℕ)) (text : List ℕ) (grants : List Grant) (standing : Standing) (other : Option Otherwise) → Some text ≡ caps → Reads (meant text) grants

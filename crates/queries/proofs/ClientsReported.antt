@@ -412,12 +412,12 @@ module _ (telling : Telling) (w : Wanted) (attr : Option Attr) (lines : telling 
   of_client name (Some text) is_judged line short (inr (false_is, is)) =
       same_as line (unread_in telling name w attr is.fault) is.line_is (of_fault name telling w attr is.fault lines (let small = is_short text short in omega (arith, small, ap (λ (f : SpecFault). f.at) is.first.2)))
 
-  of_clients : (es : List Named) (is_judged : Bool) (text : List ℕ) → All HasLength es → AreLines telling w attr es is_judged text → AreReported text
+  of_clients : (es : List Named) (is_judged : Bool) (text : List ℕ) → All HasLength es → AreLines (Says telling w attr) es is_judged text → AreReported text
   of_clients es is_judged text short no_more = none HasNumbers reported_lines
   of_clients (e ∷ es) all text short (client is_judged others line rest is says more) =
       both HasNumbers reported_lines line rest (of_client e.name e.caps is_judged line (All-head HasLength e es short) says) (of_clients es others rest (All-tail HasLength e es short) more)
   of_clients (e ∷ es) is_judged text short (another is more) = of_clients es is_judged text (All-tail HasLength e es short) more
 
-pub each_has_its_lines : (telling : Telling) (w : Wanted) (attr : Option Attr) (es : List Named) (is_judged : Bool) (text : List ℕ) → telling ≢ Object → HasNumber w.access → All HasLength es → AreLines telling w attr es is_judged text
+pub each_has_its_lines : (telling : Telling) (w : Wanted) (attr : Option Attr) (es : List Named) (is_judged : Bool) (text : List ℕ) → telling ≢ Object → HasNumber w.access → All HasLength es → AreLines (Says telling w attr) es is_judged text
     → (xs : List Reported) × All HasNumbers xs × (text ≡ flat_map reported_lines xs)
 each_has_its_lines telling w attr es is_judged text lines number short are = of_clients telling w attr lines number es is_judged text short are

@@ -6,6 +6,7 @@ pub mod Spelling
 pub mod TextFault
 pub mod ClientLines
 pub mod ClientsReported
+pub mod ClientsBy
 pub mod Looked
 pub mod Linted
 pub mod Cuts

@@ -9,12 +9,16 @@ use Rattle.ceph_input.specs.Auth.{Named, is_client}
 use Rattle.policy_analysis.specs.declared.standing.Standing.{Standing}
 use Rattle.policy_analysis.specs.declared.standing.Standing.TheVariants.{Denied}
 use Rattle.policy_analysis.specs.Callers.{Wanted}
+use Rattle.policy_analysis.specs.MdsStanding.{MdsWanted}
+use Rattle.release_rules.specs.declared.release.Release.{Release}
 use Rattle.policy_analysis.specs.Standing.{Answers}
 use Rattle.policy_analysis.specs.Otherwise.{AnswersOtherwise}
 use Rattle.policy_analysis.specs.declared.differences.Otherwise.{Otherwise}
 use Rattle.texts.specs.Standing.{standing_line, standing_otherwise, unread_line}
 use Rattle.texts.specs.Standings.{standing_object, unread_object}
 use Rattle.queries.specs.declared.clients.Telling.{Telling}
+use Rattle.queries.specs.declared.clients.WhoAnswer.{WhoAnswer}
+use Rattle.queries.specs.ClientsBy.{SaysBy, wanted_there}
 use Rattle.queries.specs.declared.clients.Telling.TheVariants.{Line, More, Object}
 
 -- what is said of a client, told in this way: a line; or this with one for each difference by which the MDS of Ceph 16 answers somebody
@@ -60,9 +64,18 @@ Says telling w attr client None judged line = (judged ≡ true) × (line ≡ sta
 Says telling w attr client (Some text) judged line =
     ((judged ≡ true) × IsJudged telling w attr client (meant text) line) ⊎ ((judged ≡ false) × IsUnread telling w attr client (meant text) line)
 
--- a line for each of whom is told, in the order of the list, and whether all of them could be judged
-pub data AreLines (telling : Telling) (w : Wanted) (attr : Option Attr) : List Named → Bool → List ℕ → Type 0 where
-  no_more : AreLines telling w attr [] true []
-  client : {e : Named} {es : List Named} (judged others : Bool) (line lines : List ℕ) → is_told e ≡ true → Says telling w attr e.name e.caps judged line → AreLines telling w attr es others lines
-      → AreLines telling w attr (e ∷ es) (judged && others) (line ++ lines)
-  another : {e : Named} {es : List Named} {others : Bool} {lines : List ℕ} → is_told e ≡ false → AreLines telling w attr es others lines → AreLines telling w attr (e ∷ es) others lines
+-- the same by the rules of a release, where the access is one in a cluster of a release
+abbrev pub SaysFor : Telling → Wanted → Option Attr → Option MdsWanted → List ℕ → Option (List ℕ) → Bool → List ℕ → Type 0
+SaysFor telling w attr None client caps judged line = Says telling w attr client caps judged line
+SaysFor telling w attr (Some there) client caps judged line = SaysBy telling there client caps judged line
+
+-- lines that say this for each of whom is told, in the order of the list, and whether all of them could be judged
+pub data AreLines (Say : List ℕ → Option (List ℕ) → Bool → List ℕ → Type 0) : List Named → Bool → List ℕ → Type 0 where
+  no_more : AreLines Say [] true []
+  client : {e : Named} {es : List Named} (judged others : Bool) (line lines : List ℕ) → is_told e ≡ true → Say e.name e.caps judged line → AreLines Say es others lines
+      → AreLines Say (e ∷ es) (judged && others) (line ++ lines)
+  another : {e : Named} {es : List Named} {others : Bool} {lines : List ℕ} → is_told e ≡ false → AreLines Say es others lines → AreLines Say (e ∷ es) others lines
+
+-- the answer has these for the entities of an auth list, by the rules of a release where one is named
+abbrev pub AnswersWho : Telling → Wanted → Option Attr → Option Release → List Named → WhoAnswer → Type 0
+AnswersWho telling w attr mds list answer = AreLines (SaysFor telling w attr (wanted_there w attr mds)) list answer.judges_all answer.lines.items

@@ -14,7 +14,7 @@ use Rattle.texts.specs.Remarks.{difference_line}
 use Rattle.texts.specs.Standing.{standing_line, unread_line}
 use Rattle.queries.specs.declared.clients.Telling.{Telling}
 use Rattle.queries.specs.declared.clients.Telling.TheVariants.{Object}
-use Rattle.queries.specs.Clients.{AreLines}
+use Rattle.queries.specs.Clients.{AreLines, Says}
 
 -- where the MDS of Ceph 16 answers somebody otherwise: whether it allows, by which grant, and for which difference
 pub record There : Type 0 where
@@ -56,4 +56,4 @@ HasLength e = IfSome e.caps (λ text. length text < 2 ^ 64)
 -- what `who` prints, if not objects, is such a text
 abbrev pub EachHasItsLines : Type 0
 EachHasItsLines = (telling : Telling) (w : Wanted) (attr : Option Attr) (es : List Named) (judged : Bool) (lines : List ℕ) → telling ≢ Object → HasNumber w.access
-    → All HasLength es → AreLines telling w attr es judged lines → (xs : List Reported) × All HasNumbers xs × (lines ≡ flat_map reported_lines xs)
+    → All HasLength es → AreLines (Says telling w attr) es judged lines → (xs : List Reported) × All HasNumbers xs × (lines ≡ flat_map reported_lines xs)

@@ -7,6 +7,7 @@ pub mod Remarks
 pub mod Comparing
 pub mod Linting
 pub mod Attempts
+pub mod ClientsBy
 pub mod Clients
 pub mod ClientsReported
 pub mod Checks

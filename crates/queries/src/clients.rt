@@ -1,14 +1,17 @@
 //! Which clients of a cluster may make an access.
 ghost use Rattle.std.specs.Prelude.{◌≡◌, ◌++◌, ℕ, List, IfOk, OnOk};
 ghost use Rattle.queries.specs.Attempts.{wanted_by};
-ghost use Rattle.queries.specs.Clients.{AreLines, Says, is_told, meant, standing_in, unread_in};
+ghost use Rattle.queries.specs.Clients.{AnswersWho, AreLines, Says, SaysFor, is_told, meant, standing_in, unread_in};
+ghost use Rattle.queries.specs.ClientsBy.{wanted_there};
 
 use crate::attempt::Attempt;
+use crate::clients_by::print_client_by;
 use crate::grant_text::read_text;
 use capgrant::Attr;
 use capspec::{FsName, SpecFault};
 use ceph_input::{AuthList, Entity};
-use policy_analysis::{Otherwise, Standing, Wanted};
+use policy_analysis::{MdsWanted, Otherwise, Standing, Wanted};
+use release_rules::Release;
 use std::alloc::{AllocError, Global};
 use texts::{
     print_standing, print_standing_object, print_standing_otherwise, print_unread,
@@ -54,15 +57,17 @@ impl Drop for WhoAnswer {
 
 /// For each client of an auth list, and each other entity with grants for the MDS, in its order: whether somebody behind its key may do what is
 /// asked, by which grant, or why nobody may; or that it depends on owner, group and mode, where these are not given. Where a client's grants can't
-/// be read, its line says why. The inode is one of this file system. Only memory can be missing.
+/// be read, its line says why. The inode is one of this file system. Where a release is named, by its rules alone, and where the client itself refuses
+/// a line says so. Only memory can be missing.
 pub fn who_lines(
     alloc: Global,
     list: &AuthList,
     fs: &FsName,
     attempt: &Attempt,
+    mds: Option<Release>,
     telling: Telling,
 ) -> Result<WhoAnswer, AllocError>
-    ensures { IfOk result (λ answer. AreLines telling (wanted_by attempt.now fs.now) attempt.now.attr list.now answer.judges_all answer.lines.items) }
+    ensures { IfOk result (AnswersWho telling (wanted_by attempt.now fs.now) attempt.now.attr mds list.now) }
 {
     let names = attempt.path.names(alloc)?;
     let wanted = Wanted {
@@ -70,8 +75,27 @@ pub fn who_lines(
         path: names.as_slice(),
         access: attempt.access,
     };
+    let there = attempt.wanted_there(fs, mds);
     let clients = list.entities();
-    client_lines(alloc, clients, &wanted, &attempt.attr, telling)
+    client_lines(alloc, clients, &wanted, &attempt.attr, &there, telling)
+}
+
+impl Attempt {
+    // The same in a cluster of a release, if one is named.
+    fn wanted_there<'a>(&'a self, fs: &'a FsName, mds: Option<Release>) -> Option<MdsWanted<'a>>
+        ensures { result ≡ wanted_there (wanted_by self.now fs.now) self.now.attr mds }
+    {
+        match mds {
+            Some(release) => Some(MdsWanted {
+                release,
+                fs,
+                path: &self.path,
+                access: self.access,
+                known: &self.attr,
+            }),
+            None => None,
+        }
+    }
 }
 
 // The lines of those of whom is told.
@@ -80,15 +104,16 @@ fn client_lines(
     entities: &[Entity],
     wanted: &Wanted<'_>,
     attr: &Option<Attr>,
+    there: &Option<MdsWanted<'_>>,
     telling: Telling,
 ) -> Result<WhoAnswer, AllocError>
-    ensures { IfOk result (λ answer. AreLines telling wanted.now attr.now entities.now answer.judges_all answer.lines.items) }
+    ensures { IfOk result (λ answer. AreLines (SaysFor telling wanted.now attr.now there.now) entities.now answer.judges_all answer.lines.items) }
 {
     let mut lines = Vec::new(alloc);
     let mut judges_all = true;
     for entity in entities {
         if is_told(entity) {
-            let is_judged = print_client(&mut lines, entity, wanted, attr, telling)?;
+            let is_judged = print_entity(&mut lines, entity, wanted, attr, there, telling)?;
             judges_all = judges_all && is_judged;
         }
     }
@@ -110,6 +135,24 @@ fn meant(text: &[u8]) -> &[u8]
         b"allow rwps"
     } else {
         text
+    }
+}
+
+// Appends the lines of one of them, by the rules of a release where one is named, and says whether it could be judged.
+fn print_entity(
+    lines: &mut Vec<u8>,
+    entity: &Entity,
+    wanted: &Wanted<'_>,
+    attr: &Option<Attr>,
+    there: &Option<MdsWanted<'_>>,
+    telling: Telling,
+) -> Result<bool, AllocError>
+    ensures { IfOk result (λ is_judged. (line : List ℕ) × (lines.new.items ≡ lines.old.items ++ line)
+        × SaysFor telling wanted.now attr.now there.now entity.now.name entity.now.caps is_judged line) }
+{
+    match there {
+        Some(there) => print_client_by(lines, entity, there, telling),
+        None => print_client(lines, entity, wanted, attr, telling),
     }
 }
 

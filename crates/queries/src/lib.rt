@@ -9,6 +9,7 @@
 mod attempt;
 mod check;
 mod clients;
+mod clients_by;
 mod comparing;
 mod fault;
 mod grant_text;

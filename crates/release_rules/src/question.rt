@@ -76,14 +76,14 @@ impl Question<'_> {
     }
 
     /// Whether the grant allows what is asked, if the client is in its network.
-    pub(crate) fn may_be_allowed_by(&self, switches: Switches, grant: &Grant) -> bool
+    pub fn may_be_allowed_by(&self, switches: Switches, grant: &Grant) -> bool
         ensures { result ≡ may_allow switches self.now grant.now }
     {
         self.first_failing(switches, grant).is_none()
     }
 
-    // Whether it is not known that the client is in the grant's network.
-    fn is_open(&self, grant: &Grant) -> bool
+    /// Whether it is not known that the client is in the grant's network.
+    pub fn is_open(&self, grant: &Grant) -> bool
         ensures { result ≡ is_open self.now grant.now }
     {
         matches!(in_network(&grant.network, self.address), InNetwork::Unknown)
@@ -110,7 +110,7 @@ impl Question<'_> {
 
     /// The first rule by which the grant fails, if there is one.
     #[tactic(auto, unfolding(crate::specs::Failing::first_failing))]
-    pub(crate) fn first_failing(&self, switches: Switches, grant: &Grant) -> Option<Rule>
+    pub fn first_failing(&self, switches: Switches, grant: &Grant) -> Option<Rule>
         ensures { result ≡ first_failing switches self.now grant.now }
     {
         if self.fails_fsname(switches, grant) {

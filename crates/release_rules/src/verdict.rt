@@ -29,8 +29,8 @@ impl Rules {
     ghost use Rattle.std.specs.Prelude.{◌≡◌, ◌++◌, [], OnOk};
     ghost use Rattle.std.specs.Option.{option_to_list};
 
-    // No rule.
-    pub(crate) fn new(alloc: Global) -> Rules
+    /// No rule.
+    pub fn new(alloc: Global) -> Rules
         ensures { result ≡ [] }
     {
         Rules {
@@ -38,8 +38,8 @@ impl Rules {
         }
     }
 
-    // Adds the rule, where there is one.
-    pub(crate) fn add(&mut self, rule: Option<Rule>) -> Result<(), AllocError>
+    /// Adds the rule, where there is one.
+    pub fn add(&mut self, rule: Option<Rule>) -> Result<(), AllocError>
         ensures { OnOk result (self.new ≡ self.old ++ option_to_list rule) }
     {
         if let Some(rule) = rule {

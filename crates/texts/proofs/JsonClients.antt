@@ -38,7 +38,7 @@ rules_of (Allowed grant) = null
 rules_of (Depends grant) = null
 rules_of (Denied rules) = rules_value rules
 
-abbrev if_known : (Attr → Data) → Option Attr → Data
+abbrev pub if_known : (Attr → Data) → Option Attr → Data
 if_known part None = null
 if_known part (Some attr) = part attr
 
@@ -64,7 +64,7 @@ shows client w (Some a) (Allowed g) other = record { client = refl; access = ref
 shows client w (Some a) (Depends g) other = record { client = refl; access = refl; path = refl; fs = refl; owner = refl; group = refl; mode = refl; word = refl; grant = refl; rules = refl; ceph = refl }
 shows client w (Some a) (Denied rs) other = record { client = refl; access = refl; path = refl; fs = refl; owner = refl; group = refl; mode = refl; word = refl; grant = refl; rules = refl; ceph = refl }
 
-one_known : (a b : Option Attr) → IfSome a (λ known. known.mode < 2 ^ 12) → IfSome b (λ known. known.mode < 2 ^ 12)
+pub one_known : (a b : Option Attr) → IfSome a (λ known. known.mode < 2 ^ 12) → IfSome b (λ known. known.mode < 2 ^ 12)
     → if_known (λ k. natural k.uid) a ≡ if_known (λ k. natural k.uid) b → if_known (λ k. natural k.gid) a ≡ if_known (λ k. natural k.gid) b → if_known (λ k. string (mode_text k.mode)) a ≡ if_known (λ k. string (mode_text k.mode)) b → a ≡ b
 one_known None None fit fits owner group mode = refl
 one_known None (Some b) fit fits owner group mode = clash 0 1 (omega arith) (ap some_in owner)

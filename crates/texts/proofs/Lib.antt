@@ -21,3 +21,5 @@ pub mod Flags
 pub mod MdsDistinct
 pub mod MdsAnswered
 pub mod Beside
+pub mod MdsClients
+pub mod MdsJsonClients

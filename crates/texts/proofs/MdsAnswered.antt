@@ -71,7 +71,7 @@ one_row n (r ∷ rs) (q ∷ qs) s t same =
     let all : rs ≡ qs = rest.0 in
     (cc, rest.1)
 
-one_list : (rs qs : List Rule) (s t : List ℕ) → mds_failures rs ++ 10 ∷ s ≡ mds_failures qs ++ 10 ∷ t → (rs ≡ qs) × (s ≡ t)
+pub one_list : (rs qs : List Rule) (s t : List ℕ) → mds_failures rs ++ 10 ∷ s ≡ mds_failures qs ++ 10 ∷ t → (rs ≡ qs) × (s ≡ t)
 one_list [] [] s t same = (refl, append_cancel_left (codes "no grants\n") s t same)
 one_list [] (q ∷ qs) s t same = clash 103 110 (omega arith) (sym (ap first_byte same))
 one_list (r ∷ rs) [] s t same = clash 103 110 (omega arith) (ap first_byte same)
@@ -85,13 +85,13 @@ one_list (r ∷ rs) (q ∷ qs) s t same =
     (cc, rest.1)
 
 -- no list of rules is the want of a mount
-no_mount : {A : Type 0} (rs : List Rule) (s t : List ℕ) → codes "no grant lets the client mount" ++ s ≡ mds_failures rs ++ t → A
+pub no_mount : {A : Type 0} (rs : List Rule) (s t : List ℕ) → codes "no grant lets the client mount" ++ s ≡ mds_failures rs ++ t → A
 no_mount [] s t same = clash 32 115 (omega arith) (ap (λ (text : List ℕ). first_byte (drop 8 text)) same)
 no_mount (r ∷ rs) s t same = clash 103 110 (omega arith) (sym (ap first_byte same))
 
 -- ---- the refusal
 
-one_refusal : (a b : Option ℕ) → HasRefusal a → HasRefusal b → refused_line a ≡ refused_line b → a ≡ b
+pub one_refusal : (a b : Option ℕ) → HasRefusal a → HasRefusal b → refused_line a ≡ refused_line b → a ≡ b
 one_refusal None None small also same = refl
 one_refusal None (Some h) small also same = clash 0 116 (omega arith) (ap first_byte same)
 one_refusal (Some g) None small also same = clash 0 116 (omega arith) (sym (ap first_byte same))

@@ -53,7 +53,7 @@ tail_of d = null
 abbrev row_from : ℕ → List Rule → Data
 row_from n rs = array (items_of (map mds_rule_value (enumerate_from n rs)))
 
-one_row : (n : ℕ) (rs qs : List Rule) → row_from n rs ≡ row_from n qs → rs ≡ qs
+pub one_row : (n : ℕ) (rs qs : List Rule) → row_from n rs ≡ row_from n qs → rs ≡ qs
 one_row n [] [] same = refl
 one_row n [] (q ∷ qs) same = clash 0 1 (omega arith) (ap some_in same)
 one_row n (r ∷ rs) [] same = clash 0 1 (omega arith) (sym (ap some_in same))
@@ -64,10 +64,10 @@ one_row n (r ∷ rs) (q ∷ qs) same =
 
 -- ---- the release, and what its MDS says
 
-abbrev asked_of : List ℕ → Release
+abbrev pub asked_of : List ℕ → Release
 asked_of version = if bytes_eq version (codes "16.2.15") then Pacific else (if bytes_eq version (codes "18.2.7") then Reef else Tentacle)
 
-has_version : (a : Release) → asked_of (version_of a) ≡ a
+pub has_version : (a : Release) → asked_of (version_of a) ≡ a
 has_version Pacific = refl
 has_version Reef = refl
 has_version Tentacle = refl

@@ -29,7 +29,9 @@ use Rattle.policy_analysis.specs.declared.differences.Otherwise.{Otherwise}
 use Rattle.policy_analysis.specs.declared.witness.Witness.{Witness}
 use Rattle.policy_analysis.specs.declared.standing.Standing.{Standing}
 use Rattle.policy_analysis.specs.declared.standing.Standing.TheVariants as standings
+use Rattle.policy_analysis.specs.declared.mds_standing.MdsStanding.{MdsStanding}
 use Rattle.policy_analysis.specs.Callers.{Wanted}
+use Rattle.policy_analysis.specs.MdsStanding.{MdsWanted}
 use Rattle.release_rules.specs.declared.beside.Otherwise.{Otherwise as Other}
 use Rattle.release_rules.specs.declared.beside.Others.{Others}
 use Rattle.release_rules.specs.declared.beside.Reason.{Reason}
@@ -54,6 +56,7 @@ use Rattle.policy_analysis.specs.declared.releases.Releases.{Releases}
 use Rattle.texts.specs.Findings.{finding_table, refused_value, releases_table, undone_value}
 use Rattle.policy_analysis.specs.Releases.{releases_numbers}
 use Rattle.texts.specs.Standings.{known_table, standing_table, standing_value, with_client}
+use Rattle.texts.specs.MdsStandings.{mds_standing_table, mds_standing_value, mds_standing_word, mds_unread_table, mds_unread_value, wanted_of}
 
 -- ---- any values
 
@@ -276,6 +279,33 @@ plain-standing client w attr standing other =
     let asked = with_client client w attr no_members in
     let judged = with_all (standing_table standing) asked in
     plain-object (with_all (otherwise_table other) judged) (flat-with_all 2 (otherwise_table other) judged (flat-other other) (flat-with_all 2 (standing_table standing) asked (flat-standing standing) (flat-client client w attr)))
+
+-- ---- those of clients by a release
+
+flat-mds_standing : (release : Release) (standing : MdsStanding) → AllFlat 2 (mds_standing_table release standing)
+flat-mds_standing release standing = (
+  flat-string 2 (version_of release),
+  (
+    flat-string 2 (mds_standing_word standing.verdict standing.by_inode),
+    (
+      flat-grant_value standing.verdict,
+      (flat-failures_value standing.verdict, (flat-or_null 2 natural (flat-natural 2) standing.refused, tt)),
+    ),
+  ),
+)
+
+pub plain-mds_standing : (client : List ℕ) (w : MdsWanted) (standing : MdsStanding) → IsPlain (mds_standing_value client w standing)
+plain-mds_standing client w standing =
+    let asked = with_client client (wanted_of w) w.known no_members in
+    plain-object (with_all (mds_standing_table w.release standing) asked) (flat-with_all 2 (mds_standing_table w.release standing) asked (flat-mds_standing w.release standing) (flat-client client (wanted_of w) w.known))
+
+flat-mds_unread : (release : Release) (at : ℕ) → AllFlat 2 (mds_unread_table release at)
+flat-mds_unread release at = (flat-string 2 (version_of release), (flat-string 2 (codes "unread"), (flat-natural 2 at, tt)))
+
+pub plain-mds_unread : (client : List ℕ) (w : MdsWanted) (at : ℕ) → IsPlain (mds_unread_value client w at)
+plain-mds_unread client w at =
+    let asked = with_client client (wanted_of w) w.known no_members in
+    plain-object (with_all (mds_unread_table w.release at) asked) (flat-with_all 2 (mds_unread_table w.release at) asked (flat-mds_unread w.release at) (flat-client client (wanted_of w) w.known))
 
 -- ---- those of changes and findings
 

@@ -21,3 +21,4 @@ pub mod Watched
 pub mod Mds
 pub mod MdsAnswers
 pub mod MdsTold
+pub mod MdsStandings

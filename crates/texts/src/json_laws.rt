@@ -8,6 +8,7 @@ ghost use Rattle.texts.specs.Answers.{OneAnswer};
 ghost use Rattle.texts.specs.Changes.{OneChange};
 ghost use Rattle.texts.specs.Findings.{EachHasAnObject, OneFinding};
 ghost use Rattle.texts.specs.MdsAnswers.{OneMdsAnswer};
+ghost use Rattle.texts.specs.MdsStandings.{OneMdsStanding};
 ghost use Rattle.texts.specs.Standings.{OneStanding};
 ghost use Rattle.texts.specs.Values.{ReadsBack, bytes_value, json_line};
 
@@ -30,6 +31,7 @@ pub fn one_answer_for_an_object()
     ensures answer { OneAnswer }
     ensures release { OneMdsAnswer }
     ensures client { OneStanding }
+    ensures client_by { OneMdsStanding }
     ensures change { OneChange }
     ensures finding { OneFinding }
     ensures findings { EachHasAnObject }

@@ -6,6 +6,7 @@ ghost use Rattle.capgrant.specs.declared.access.Access.{Access};
 ghost use Rattle.capgrant.specs.declared.answer.Verdict.{Verdict};
 ghost use Rattle.policy_analysis.specs.declared.standing.Standing.{Standing};
 ghost use Rattle.texts.specs.Found.{OneFinding};
+ghost use Rattle.texts.specs.MdsStandings.{OneMdsClient};
 ghost use Rattle.texts.specs.MdsTold.{OneBeside, OneMdsText};
 ghost use Rattle.texts.specs.Lines.{HasGrant, HasNumber, OneComparison, OneStanding, OneUnread, answer_line};
 ghost use Rattle.texts.specs.Quoting.{quoted};
@@ -24,7 +25,7 @@ pub fn one_text_for_what_is_quoted()
 /// quotes as it has to: whatever its names hold, no line is that of another answer. So of clients: two that differ in the name, in what
 /// is asked or in what is said to that, or in what is wrong with their grants and where, have two lines. And of comparisons: two that differ
 /// in what is gained or in what is lost have other lines. So of what is found of a grant. And of whole answers, with all that is worth a
-/// word beside them, of Ceph 16 or of each release; and of the answers of a release.
+/// word beside them, of Ceph 16 or of each release; and of the answers of a release, to a question and of a client.
 pub fn one_answer_for_a_line()
     ensures answer { (a b : Access) (p q : List ℕ) (v w : Verdict) → HasNumber a → HasNumber b → HasGrant v → HasGrant w
         → answer_line a p v ≡ answer_line b q w → (a ≡ b) × (p ≡ q) × (v ≡ w) }
@@ -36,5 +37,6 @@ pub fn one_answer_for_a_line()
     ensures remarks { EachIsRemarked }
     ensures beside { OneBeside }
     ensures release { OneMdsText }
+    ensures client_by { OneMdsClient }
     ensures either { (c d : List ℕ) (a : Access) (p : List (List ℕ)) (s : Standing) (f : SpecFault) → standing_line c a p s ≢ unread_line d f }
 {}

@@ -29,6 +29,7 @@ mod shape;
 mod table;
 mod verdict_object;
 mod watched;
+mod who_mds;
 mod who_object;
 mod who_text;
 
@@ -51,5 +52,8 @@ pub use quoting::{print_quoted, print_quoted_path};
 pub use shape::Shape;
 pub use table::{Piece, print_pieces};
 pub use watched::Watched;
+pub use who_mds::{
+    print_mds_standing, print_mds_standing_object, print_mds_unread, print_mds_unread_object,
+};
 pub use who_object::{print_standing_object, print_unread_object};
 pub use who_text::{fault_word, print_standing, print_standing_otherwise, print_unread};

@@ -66,8 +66,8 @@ fn mds_word(verdict: &Verdict) -> &'static str
     }
 }
 
-// The grant that the verdict is by.
-fn grant_piece(verdict: &Verdict) -> Piece<'static>
+/// The grant that the verdict is by.
+pub(crate) fn grant_piece(verdict: &Verdict) -> Piece<'static>
     ensures { piece_value result ≡ grant_value verdict.now }
 {
     match verdict {
@@ -78,8 +78,8 @@ fn grant_piece(verdict: &Verdict) -> Piece<'static>
     }
 }
 
-// The rules that it is by.
-fn failures_piece(verdict: &Verdict) -> Piece<'_>
+/// The rules that it is by.
+pub(crate) fn failures_piece(verdict: &Verdict) -> Piece<'_>
     ensures { piece_value result ≡ failures_value verdict.now }
 {
     match verdict {
@@ -88,7 +88,8 @@ fn failures_piece(verdict: &Verdict) -> Piece<'_>
     }
 }
 
-fn count_if(number: Option<usize>) -> Piece<'static>
+/// This number, where there is one.
+pub(crate) fn count_if(number: Option<usize>) -> Piece<'static>
     ensures { piece_value result ≡ or_null natural number }
 {
     match number {

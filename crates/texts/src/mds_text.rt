@@ -55,8 +55,8 @@ fn outcome(verdict: &Verdict) -> &'static str
     }
 }
 
-// Appends by which grant or rules an MDS answers so, behind a space.
-fn print_mds_reason(text: &mut Vec<u8>, verdict: &Verdict) -> Result<(), AllocError>
+/// Appends by which grant or rules an MDS answers so, behind a space.
+pub(crate) fn print_mds_reason(text: &mut Vec<u8>, verdict: &Verdict) -> Result<(), AllocError>
     ensures { OnOk result (text.new.items ≡ text.old.items ++ mds_reason verdict.now) }
 {
     match verdict {
@@ -97,8 +97,8 @@ fn print_failure(text: &mut Vec<u8>, number: usize, rule: Rule) -> Result<(), Al
     )
 }
 
-// Appends a line for the grant by which the client itself refuses to change attributes, where there is one.
-fn print_refused(text: &mut Vec<u8>, refused: Option<usize>) -> Result<(), AllocError>
+/// Appends a line for the grant by which the client itself refuses to change attributes, where there is one.
+pub(crate) fn print_refused(text: &mut Vec<u8>, refused: Option<usize>) -> Result<(), AllocError>
     ensures { OnOk result (text.new.items ≡ text.old.items ++ refused_line refused) }
 {
     match refused {

@@ -56,8 +56,8 @@ pub fn print_unread_object(
     print_object(lines, members)
 }
 
-// Adds the client, and what is asked of it.
-fn put_client(
+/// Adds the client, and what is asked of it.
+pub(crate) fn put_client(
     members: &mut Members,
     alloc: Global,
     client: &[u8],

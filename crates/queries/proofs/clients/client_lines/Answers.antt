@@ -1,13 +1,12 @@
 use Rattle.std.proofs.Common.{ap, sym, ◌∙◌}
+use Rattle.queries.specs.Clients.{SaysFor}
 use Rattle.queries.proofs.ClientLines.{all_lines, both, no_line, not_all, one_line}
 use Rattle.queries.proofs.clients.client_lines.Goals as goal
 use Rattle.queries.proofs.clients.client_lines.Goals.{else-is_told, then-is_told+in_ok-is_judged+else-judges_all, then-is_told+in_ok-is_judged+then-judges_all}
 
 pub loop-entity-preserved : goal.loop-entity-preserved
 loop-entity-preserved c =
-    let telling = c.args.telling in
-    let w = c.args.wanted.now in
-    let attr = c.args.attr.now in
+    let say = SaysFor c.args.telling c.args.wanted.now c.args.attr.now c.args.there.now in
     let es = c.args.entities.now in
     let i = c.loop-entity.entity-index in
     let e = c.entity-item.result in
@@ -16,12 +15,12 @@ loop-entity-preserved c =
     elim c.if-is_told.branch [
       | then-is_told+in_ok-is_judged+then-judges_all k ↦
           let reported = k.in_ok-is_judged.ensures in
-          one_line telling w attr es i e judged text c.loop-entity-test.true c.entity-item.is c.loop-entity.invariant k.in_ok-is_judged.is_judged _ reported.0 _ (sym c.is_told.ensures ∙ k.if-is_told.true) reported.2 (ap (λ v. v.items) k.lines-is ∙ reported.1) (both _ _ _ k.if-judges_all.true k.judges_all-is)
+          one_line say es i e judged text c.loop-entity-test.true c.entity-item.is c.loop-entity.invariant k.in_ok-is_judged.is_judged _ reported.0 _ (sym c.is_told.ensures ∙ k.if-is_told.true) reported.2 (ap (λ v. v.items) k.lines-is ∙ reported.1) (both _ _ _ k.if-judges_all.true k.judges_all-is)
       | then-is_told+in_ok-is_judged+else-judges_all k ↦
           let reported = k.in_ok-is_judged.ensures in
-          one_line telling w attr es i e judged text c.loop-entity-test.true c.entity-item.is c.loop-entity.invariant k.in_ok-is_judged.is_judged _ reported.0 _ (sym c.is_told.ensures ∙ k.if-is_told.true) reported.2 (ap (λ v. v.items) k.lines-is ∙ reported.1) (not_all _ _ _ k.if-judges_all.false k.judges_all-is)
-      | else-is_told k ↦ no_line telling w attr es i e judged text c.loop-entity-test.true c.entity-item.is c.loop-entity.invariant _ _ (sym c.is_told.ensures ∙ k.if-is_told.false) (ap (λ v. v.items) k.lines-is) k.judges_all-is
+          one_line say es i e judged text c.loop-entity-test.true c.entity-item.is c.loop-entity.invariant k.in_ok-is_judged.is_judged _ reported.0 _ (sym c.is_told.ensures ∙ k.if-is_told.true) reported.2 (ap (λ v. v.items) k.lines-is ∙ reported.1) (not_all _ _ _ k.if-judges_all.false k.judges_all-is)
+      | else-is_told k ↦ no_line say es i e judged text c.loop-entity-test.true c.entity-item.is c.loop-entity.invariant _ _ (sym c.is_told.ensures ∙ k.if-is_told.false) (ap (λ v. v.items) k.lines-is) k.judges_all-is
     ]
 
 pub returns : goal.returns
-returns c = all_lines c.args.telling c.args.wanted.now c.args.attr.now c.args.entities.now c.loop-entity.entity-index c.loop-entity.judges_all c.loop-entity.lines.items c.loop-entity-test.false c.loop-entity.invariant
+returns c = all_lines (SaysFor c.args.telling c.args.wanted.now c.args.attr.now c.args.there.now) c.args.entities.now c.loop-entity.entity-index c.loop-entity.judges_all c.loop-entity.lines.items c.loop-entity-test.false c.loop-entity.invariant

@@ -1,6 +1,7 @@
 use Rattle.texts.proofs.JsonClients.{one_standing}
 use Rattle.texts.proofs.Distinct.{one_answer, one_change}
 use Rattle.texts.proofs.JsonLinted.{each_has_one, one_finding}
+use Rattle.texts.proofs.MdsJsonClients.{one_mds_standing}
 use Rattle.texts.proofs.MdsDistinct.{one_mds_answer}
 use Rattle.texts.proofs.json_laws.one_answer_for_an_object.Goals as goal
 
@@ -21,3 +22,6 @@ returns-clause-findings c = each_has_one
 
 pub returns-clause-release : goal.returns-clause-release
 returns-clause-release c = one_mds_answer
+
+pub returns-clause-client_by : goal.returns-clause-client_by
+returns-clause-client_by c = one_mds_standing

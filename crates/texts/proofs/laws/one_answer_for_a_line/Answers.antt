@@ -5,6 +5,7 @@ use Rattle.texts.proofs.Clients.{no_fault, one_fault, one_standing}
 use Rattle.texts.proofs.Linted.{one_finding}
 use Rattle.texts.proofs.Asked.{is_remarked}
 use Rattle.texts.proofs.MdsAnswered.{one_mds_text}
+use Rattle.texts.proofs.MdsClients.{one_mds_client}
 use Rattle.texts.proofs.Remarked.{one_remark}
 use Rattle.texts.proofs.laws.one_answer_for_a_line.Goals as goal
 
@@ -37,3 +38,6 @@ returns-clause-beside c = one_beside
 
 pub returns-clause-release : goal.returns-clause-release
 returns-clause-release c = one_mds_text
+
+pub returns-clause-client_by : goal.returns-clause-client_by
+returns-clause-client_by c = one_mds_client
