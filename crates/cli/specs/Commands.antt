@@ -23,7 +23,7 @@ use Rattle.cli.specs.declared.stopping.Fault.TheVariants.{Answer, Script, Serve}
 
 -- the whole answer was written: the answer to a question, the written form of grants, the lines that compare two texts, what is found in one,
 -- the lines for the clients of a cluster, what they hold and may not, those that tell of a log, the transcript of the script that was to be read, or the history; with the status 0, but for a question that is answered by the status alone,
--- and for what is found
+-- and for what is found, or can't be judged
 abbrev pub Answers : Invocation → Option (List ℕ) → ℕ → Option (List ℕ) → Option (List ℕ) → Type 0
 Answers (invocations.Explain explain_args) input status old new = AnswersExplainArgs explain_args input status old new
 Answers (invocations.Grants text more mds) input status old new = (status ≡ 0) × AnswersGrants mds text.items old new
@@ -31,7 +31,7 @@ Answers (invocations.Compare before after shape) input status old new = (status 
 Answers (invocations.Lint text shape mds) input status old new = AnswersLint mds shape text.items status old new
 Answers (invocations.Who who_args) input status old new = AnswersWhoArgs who_args input status old new
 Answers (invocations.Audit audit_args) input status old new = AnswersAuditArgs audit_args input status old new
-Answers (invocations.Log fs) input status old new = (status ≡ 0) × AnswersLog fs.items input old new
+Answers (invocations.Log fs) input status old new = AnswersLog fs.items input status old new
 Answers (invocations.Run more) input status old new = (status ≡ 0) × IfSome input (λ script. (length script ≤ longest_script) × ((text : List ℕ) × IsTranscript (lines script) text × Appends old new text))
 Answers (invocations.Serve more) input status old new = (status ≡ 0) × IfSome input (λ script. (length script ≤ longest_script) × ((text : List ℕ) × IsServed (lines script) text × Appends old new text))
 

@@ -1,25 +1,61 @@
 -- What `log` writes, and why it stops before that.
-use Rattle.std.specs.Prelude.{◌≡◌, ◌⊎◌, ◌≤◌, ℕ, Bool, List, length, Option, IfSome, IsTrue}
+use Rattle.std.specs.Prelude.{◌≡◌, ◌⊎◌, ◌<◌, ℕ, Bool, List, [], ◌++◌, length, Option, IfSome, IsTrue, if◌then◌else◌}
 use Rattle.std.specs.Io.KnownBytes.{Appends, Keeps}
 use Rattle.capspec.specs.Names.{IsFsName}
-use Rattle.texts.specs.ScriptLines.{longest_script}
+use Rattle.texts.specs.declared.fault.ScriptFault.TheVariants as stops
 use Rattle.queries.specs.declared.fault.QuestionFault.TheVariants.{BadValue}
 use Rattle.queries.specs.declared.options.Opt.TheVariants.{Fs}
 use Rattle.queries.specs.Reported.{IsReportOf}
+use Rattle.queries.specs.LogPieces.{HasTold, Teller, TellsEnd, TellsPiece}
 use Rattle.cli_queries.specs.declared.fault.AnswerFault.{AnswerFault}
-use Rattle.cli_queries.specs.declared.fault.AnswerFault.TheVariants.{NoMemory, Question, WriteFailed}
-use Rattle.cli_queries.specs.ExplainArgs.{IsUnreadInput}
+use Rattle.cli_queries.specs.declared.fault.AnswerFault.TheVariants.{NoMemory, Question, Unread, WriteFailed}
+
+-- how many bytes a log may have
+abbrev pub longest_log : ℕ
+longest_log = 1152921504606846976
+
+-- the status where each check of a log was judged, or one was not
+abbrev pub status_of : Bool → ℕ
+status_of judged = if judged then 0 else 3
+
+-- the lines that tell of this log, and the status
+abbrev pub TellsLog : List ℕ → List ℕ → ℕ → List ℕ → Type 0
+TellsLog fs log status lines = (judged : Bool) × IsReportOf fs log lines judged × (status ≡ status_of judged)
 
 -- the lines that tell of the log that was to be read were written, on the file system of this name
-pub record AnswersLog (fs : List ℕ) (input old new : Option (List ℕ)) : Type 0 where
+pub record AnswersLog (fs : List ℕ) (input : Option (List ℕ)) (status : ℕ) (old new : Option (List ℕ)) : Type 0 where
   pub named : IsFsName fs
-  pub reported : IfSome input (λ log. (length log ≤ longest_script) × ((lines : List ℕ) × IsReportOf fs log lines × Appends old new lines))
+  pub reported : IfSome input (λ log. (lines : List ℕ) × TellsLog fs log status lines × Appends old new lines)
 
--- no file system has the name, the input can't be read, or memory was missing
-abbrev pub IsFaultOfLog : List ℕ → AnswerFault → Option (List ℕ) → Bool → Type 0
-IsFaultOfLog fs fault input unread =
-    ((fault ≡ Question (BadValue Fs)) × (¬ IsFsName fs)) ⊎ (IsUnreadInput fault input unread ⊎ (fault ≡ NoMemory))
+-- what was written tells of the first lines of the log
+abbrev pub TellsFirst : List ℕ → Option (List ℕ) → Option (List ℕ) → Option (List ℕ) → Type 0
+TellsFirst fs input old new = IfSome input (λ log. (front left reported : List ℕ) × (t : Teller) × (log ≡ front ++ left) × HasTold fs front reported t × Appends old new reported)
 
--- a write failed; or it is a fault of the log, and nothing was written
+-- a read failed, or the log is too long; or memory was missing
+abbrev pub IsUnreadLog : AnswerFault → Option (List ℕ) → Bool → Type 0
+IsUnreadLog fault input unread = ((fault ≡ Unread stops.ReadFault) × (IsTrue unread ⊎ IfSome input (λ log. longest_log < length log))) ⊎ (fault ≡ NoMemory)
+
+-- no file system has the name
+abbrev pub IsUnnamed : List ℕ → AnswerFault → Type 0
+IsUnnamed fs fault = (fault ≡ Question (BadValue Fs)) × (¬ IsFsName fs)
+
+-- no file system has the name, and nothing was written; or the log can't be read to its end, and what was written tells of its first lines; or a
+-- write failed
 abbrev pub StopsLog : List ℕ → AnswerFault → Option (List ℕ) → Bool → Bool → Option (List ℕ) → Option (List ℕ) → Type 0
-StopsLog fs fault input unread unwritten old new = ((fault ≡ WriteFailed) × IsTrue unwritten) ⊎ (IsFaultOfLog fs fault input unread × Keeps old new)
+StopsLog fs fault input unread unwritten old new =
+    (IsUnnamed fs fault × Appends old new [])
+    ⊎ ((IsUnreadLog fault input unread × TellsFirst fs input old new) ⊎ ((fault ≡ WriteFailed) × IsTrue unwritten))
+
+-- ---- piece by piece
+
+-- what is told of the lines that end in a piece was written
+abbrev pub WritesPiece : List ℕ → Teller → List ℕ → Teller → Option (List ℕ) → Option (List ℕ) → Type 0
+WritesPiece fs t piece next old new = (more : List ℕ) × TellsPiece fs t piece more next × Appends old new more
+
+-- what is told at the end was written, and this is the status
+abbrev pub WritesEnd : List ℕ → Teller → ℕ → Option (List ℕ) → Option (List ℕ) → Type 0
+WritesEnd fs t status old new = (more : List ℕ) × (judged : Bool) × TellsEnd fs t more judged × Appends old new more × (status ≡ status_of judged)
+
+-- memory was missing, and nothing was written; or a write failed
+abbrev pub StopsTelling : AnswerFault → Bool → Option (List ℕ) → Option (List ℕ) → Type 0
+StopsTelling fault unwritten old new = ((fault ≡ NoMemory) × Keeps old new) ⊎ ((fault ≡ WriteFailed) × IsTrue unwritten)

@@ -68,7 +68,7 @@ const STATUSES: &str = "Status:
   0  the whole answer was written; of `explain --quiet`: allowed
   1  a value, a text or a script has a fault, a read or a write failed, or memory was missing
   2  the command line is wrong
-  3  of `explain --quiet`: denied; of `lint` and `audit`: something was found; of `who` and `audit`: something could not be judged";
+  3  of `explain --quiet`: denied; of `lint` and `audit`: something was found; of `who`, `audit` and `log`: something could not be judged";
 
 /// What a command line asks for.
 pub enum Invocation {

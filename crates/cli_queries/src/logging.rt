@@ -1,18 +1,27 @@
 //! The command that tells of the checks of policy in a log of an MDS.
-ghost use Rattle.std.specs.Prelude.{◌≡◌, OnOk, IfOk, IfErr, IsFalse};
+ghost use Rattle.std.specs.Prelude.{◌≡◌, ◌⊎◌, ◌+◌, ◌<◌, ◌^◌, length, IfOk, IfErr, OnOk, IsFalse};
+ghost use Rattle.capspec.specs.Names.{IsFsName};
+ghost use Rattle.queries.specs.LogPieces.{teller_of};
 ghost use Rattle.texts.specs.Watched.{has_ended, has_failed, inner_of};
-ghost use Rattle.cli_queries.specs.Logging.{AnswersLog, StopsLog};
+ghost use Rattle.cli_queries.specs.Logging.{AnswersLog, IsUnnamed, StopsLog, StopsTelling, WritesEnd, WritesPiece, status_of};
 
 use crate::commands::write_text;
 use crate::fault::AnswerFault;
-use crate::status::DONE;
+use crate::status::{DONE, FOUND};
 use capspec::FsName;
-use queries::{Opt, QuestionFault, log_lines};
+use queries::{LogTeller, Opt, QuestionFault};
 use std::alloc::Global;
 use std::io::{Read, Write};
-use texts::{Watched, read_script};
+use texts::{ScriptFault, Watched};
 
-/// Writes lines for each check of policy in the log that the reader has, judged on the file system of this name.
+/// How many bytes a log may have.
+const MAX_LOG: u64 = 1152921504606846976;
+
+// How many bytes are read at once.
+const CHUNK: usize = 4096;
+
+/// Writes lines for each check of policy in the log that the reader has, judged on the file system of this name, as they come; and answers the
+/// status: `FOUND` where a check could not be judged.
 pub fn log<R: Read, W: Write>(
     alloc: Global,
     fs: &[u8],
@@ -22,17 +31,92 @@ pub fn log<R: Read, W: Write>(
     requires reader_clear { IsFalse (has_failed reader.old) }
     requires reader_unended { IsFalse (has_ended reader.old) }
     requires writer_clear { IsFalse (has_failed writer.old) }
-    ensures status { IfOk result (λ status. status ≡ DONE) }
+    ensures status { IfOk result (λ status. (status ≡ DONE) ⊎ (status ≡ FOUND)) }
     ensures ok { OnOk result (IsFalse (has_failed reader.new) × IsFalse (has_failed writer.new)) }
-    ensures reported { OnOk result (AnswersLog fs.now (R.remaining (inner_of reader.old))
+    ensures reported { IfOk result (λ status. AnswersLog fs.now (R.remaining (inner_of reader.old)) status
         (W.contents (inner_of writer.old)) (W.contents (inner_of writer.new))) }
     ensures err { IfErr result (λ fault. StopsLog fs.now fault (R.remaining (inner_of reader.old))
         (has_failed reader.new) (has_failed writer.new) (W.contents (inner_of writer.old)) (W.contents (inner_of writer.new))) }
 {
+    check_name(fs)?;
+    let mut teller = LogTeller::new(alloc);
+    let mut buffer = [0; CHUNK];
+    let mut size: u64 = 0;
+    'pieces: while size <= MAX_LOG {
+        let taken = match reader.read(&mut buffer) {
+            Ok(taken) => taken,
+            Err(_) => return Err(AnswerFault::Unread(ScriptFault::ReadFault)),
+        };
+        if taken == 0 {
+            return tell_end(alloc, &mut teller, fs, writer);
+        }
+        tell_piece(alloc, &mut teller, fs, &buffer[..taken], writer)?;
+        size += taken as u64;
+    }
+    Err(AnswerFault::Unread(ScriptFault::ReadFault))
+}
+
+// Whether a file system may have this name.
+fn check_name(fs: &[u8]) -> Result<(), AnswerFault>
+    ensures ok { OnOk result (IsFsName fs.now) }
+    ensures err { IfErr result (IsUnnamed fs.now) }
+{
     if FsName::read(fs).is_none() {
         return Err(AnswerFault::Question(QuestionFault::BadValue(Opt::Fs)));
     }
-    let log = read_script(alloc, reader)?;
-    let lines = log_lines(alloc, fs, log.as_slice())?;
-    write_text(lines.as_slice(), DONE, writer)
+    Ok(())
+}
+
+// Writes what is told of the lines that end in a piece of the log.
+fn tell_piece<W: Write>(
+    alloc: Global,
+    teller: &mut LogTeller,
+    fs: &[u8],
+    piece: &[u8],
+    writer: &mut Watched<W>,
+) -> Result<(), AnswerFault>
+    requires room { (teller_of teller.old).state.number + length (teller_of teller.old).unfinished + length piece.now < 2 ^ 64 }
+    requires few { (teller_of teller.old).state.passed < (teller_of teller.old).state.number }
+    requires clear { IsFalse (has_failed writer.old) }
+    ensures ok { OnOk result (IsFalse (has_failed writer.new)) }
+    ensures told { OnOk result (WritesPiece fs.now (teller_of teller.old) piece.now (teller_of teller.new)
+        (W.contents (inner_of writer.old)) (W.contents (inner_of writer.new))) }
+    ensures err { IfErr result (λ fault. StopsTelling fault (has_failed writer.new)
+        (W.contents (inner_of writer.old)) (W.contents (inner_of writer.new))) }
+{
+    let mut reported = Vec::new(alloc);
+    teller.take(&mut reported, fs, piece)?;
+    write_text(reported.as_slice(), DONE, writer)?;
+    Ok(())
+}
+
+// Writes what is told where the log ends, and answers the status.
+fn tell_end<W: Write>(
+    alloc: Global,
+    teller: &mut LogTeller,
+    fs: &[u8],
+    writer: &mut Watched<W>,
+) -> Result<u8, AnswerFault>
+    requires room { (teller_of teller.old).state.number < 2 ^ 63 }
+    requires few { (teller_of teller.old).state.passed < (teller_of teller.old).state.number }
+    requires clear { IsFalse (has_failed writer.old) }
+    ensures status { IfOk result (λ status. (status ≡ DONE) ⊎ (status ≡ FOUND)) }
+    ensures ok { OnOk result (IsFalse (has_failed writer.new)) }
+    ensures told { IfOk result (λ status. WritesEnd fs.now (teller_of teller.old) status
+        (W.contents (inner_of writer.old)) (W.contents (inner_of writer.new))) }
+    ensures err { IfErr result (λ fault. StopsTelling fault (has_failed writer.new)
+        (W.contents (inner_of writer.old)) (W.contents (inner_of writer.new))) }
+{
+    let mut reported = Vec::new(alloc);
+    let is_judged = teller.finish(&mut reported, fs)?;
+    let status = status_of(is_judged);
+    write_text(reported.as_slice(), status, writer)
+}
+
+// The status where each check of a log was judged, or one was not.
+fn status_of(is_judged: bool) -> u8
+    ensures judged { result ≡ status_of is_judged }
+    ensures either { (result ≡ DONE) ⊎ (result ≡ FOUND) }
+{
+    if is_judged { DONE } else { FOUND }
 }

@@ -16,7 +16,7 @@ pub const USAGE: u8 = 2;
 /// No grant allows what is asked, where that is answered by the status alone.
 pub const DENIED: u8 = 3;
 
-/// Something was found in grants that were looked over or on a cluster, or somebody could not be judged there. The same status as `DENIED`.
+/// Something was found in grants that were looked over or on a cluster, or something could not be judged there or in a log. The same status as `DENIED`.
 pub const FOUND: u8 = 3;
 
 /// Writes the fault as a line, and returns its status.

@@ -68,14 +68,7 @@ pub fn who<R: Read, W: Write>(
     let list = read_auth(alloc, auth.as_slice())?;
     who_args.named = list.fs_names(alloc)?;
     let fs = fs_asked(who_args.named.as_slice(), &attempt.fs)?;
-    let answer = who_lines(
-        alloc,
-        &list,
-        &fs,
-        &attempt,
-        who_args.mds,
-        who_args.telling,
-    )?;
+    let answer = who_lines(alloc, &list, &fs, &attempt, who_args.mds, who_args.telling)?;
     let status = status_of(&answer);
     write_text(answer.lines.as_slice(), status, writer)
 }

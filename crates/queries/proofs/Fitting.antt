@@ -1,7 +1,7 @@
 -- What is told of a log has numbers that fit.
-use Rattle.std.proofs.Common.{ℕ, zero, suc, ◌+◌, ◌-◌, ◌/◌, ◌%◌, ◌<◌, ◌≤◌, ◌^◌, Bool, true, false, Option, Some, None, List, [], ◌∷◌, ◌++◌, length, take, drop}
-use Rattle.std.proofs.Common.{ap, arith}
-use Rattle.std.specs.Prelude.{codes, All, IfSome, nat_eq, ◌==◌, option_map, option_and_then, if◌then◌else◌}
+use Rattle.std.proofs.Common.{◌≡◌, ℕ, zero, suc, ◌+◌, ◌-◌, ◌/◌, ◌%◌, ◌<◌, ◌≤◌, ◌^◌, Bool, Option, Some, None, List, [], ◌∷◌, ◌++◌, length, take, drop, ap, subst}
+use Rattle.std.proofs.Common.{arith}
+use Rattle.std.specs.Prelude.{codes, All, IfSome, nat_eq, ◌==◌, ◌&&◌, option_map, option_and_then, if◌then◌else◌}
 use Rattle.std.specs.List.{onto_first, starts_with}
 use Rattle.std.proofs.lemmas.Bool.{cond_both}
 use Rattle.std.proofs.lemmas.Int.Digits.{digits_value-lt}
@@ -19,11 +19,12 @@ use Rattle.queries.specs.Question.{AsksFor}
 use Rattle.queries.specs.Remarks.{asked_of}
 use Rattle.queries.specs.Values.{IsModeText, without_kind}
 use Rattle.texts.specs.ScriptLines.{is_line_feed, lines}
-use Rattle.queries.specs.Checks.{CheckTexts, InodeTexts, behind_space, check_of, check_text, check_texts, cut, cut_below, head, inode_of, then_cut}
+use Rattle.queries.specs.Cuts.{behind_front, cut_below, cut_first, is_any, is_closed, then_cut, then_cut_closed}
+use Rattle.queries.specs.Checks.{CheckTexts, InodeTexts, check_in, check_of, check_texts, head_in, head_of, head_with, inode_of, may_stand_before}
 use Rattle.queries.specs.declared.mask.Mask.{Mask}
 use Rattle.capgrant.specs.Masks.{asked_if}
 use Rattle.queries.specs.Masks.{IsMaskOf, accesses_of}
-use Rattle.queries.specs.Reported.{passed_if, passed_in, with_access}
+use Rattle.queries.specs.Reported.{with_access}
 
 -- ---- the lines of a log
 
@@ -56,35 +57,53 @@ few_lines (b ∷ log) =
     cond_both (is_line_feed b) ([] ∷ lines log) (onto_first b (lines log)) (λ (ls : List (List ℕ)). length ls ≤ suc (length log) + 1)
     (λ feed. omega (arith, few_lines log)) (λ other. omega (arith, few_lines log, one_more b (lines log)))
 
-few_passed : (bytes : ℕ) (text : Option (List ℕ)) → passed_if bytes text ≤ 1
-few_passed bytes None = cond_both (bytes == 0) 0 1 (λ (n : ℕ). n ≤ 1) (λ none. omega arith) (λ some. omega arith)
-few_passed bytes (Some text) = omega arith
-
-pub few_passed_in : (ls : List (List ℕ)) → passed_in ls ≤ length ls
-few_passed_in [] = omega arith
-few_passed_in (line ∷ ls) = omega (arith, few_passed (length line) (check_text line), few_passed_in ls)
+pub few_more : (bytes : ℕ) → (if bytes == 0 then 0 else 1) ≤ 1
+few_more bytes = cond_both (bytes == 0) 0 1 (λ (n : ℕ). n ≤ 1) (λ none. omega arith) (λ some. omega arith)
 
 -- ---- the grants of a check
 
-less_behind : (line : List ℕ) → length (behind_space line) ≤ length line
-less_behind [] = omega arith
-less_behind (b ∷ line) = cond_both (b == 32) line (behind_space line) (λ (t : List ℕ). length t ≤ length (b ∷ line)) (λ here. omega arith) (λ other. omega (arith, less_behind line))
+-- what stands behind a mark has so few bytes
+abbrev pub HasFew : {X : Type 0} → ℕ → Option (X × List ℕ) → Type 0
+HasFew most parts = IfSome parts (λ p. length p.1 ≤ most)
 
-abbrev pub HasFew : ℕ → Option (List ℕ) → Type 0
-HasFew most text = IfSome text (λ bytes. length bytes ≤ most)
-
-pub more_than : (m n : ℕ) (text : Option (List ℕ)) → m ≤ n → HasFew m text → HasFew n text
+pub more_than : {X : Type 0} (m n : ℕ) (parts : Option (X × List ℕ)) → m ≤ n → HasFew m parts → HasFew n parts
 more_than m n None less few = tt
-more_than m n (Some text) less few = omega (arith, less, few)
+more_than m n (Some parts) less few = omega (arith, less, few)
 
-in_head : (test : Bool) (most : ℕ) (text : List ℕ) → length text ≤ most → HasFew most (if test then Some (drop (length head) text) else None)
-in_head true most text short = omega (arith, length-drop (length head) text, short)
-in_head false most text short = tt
+first_behind : (mark text : List ℕ) → HasFew (length text) (cut_first mark text)
+first_behind mark [] = tt
+first_behind mark (b ∷ text) =
+    cond_both (starts_with nat_eq (b ∷ text) mark) (Some ([], drop (length mark) (b ∷ text))) (option_map (λ (p : List ℕ × List ℕ). (b ∷ p.0, p.1)) (cut_first mark text)) (HasFew (length (b ∷ text)))
+    (λ here. omega (arith, length-drop (length mark) (b ∷ text))) (λ other. further (cut_first mark text) (first_behind mark text))
+  where
+    further : (parts : Option (List ℕ × List ℕ)) → HasFew (length text) parts → HasFew (length (b ∷ text)) (option_map (λ (p : List ℕ × List ℕ). (b ∷ p.0, p.1)) parts)
+    further None few = tt
+    further (Some p) few = omega (arith, few)
 
-pub short_check : (line : List ℕ) → HasFew (length line) (check_text line)
-short_check line =
-    let behind : List ℕ = behind_space (behind_space line) in
-    in_head (starts_with nat_eq behind head) (length line) behind (omega (arith, less_behind line, less_behind (behind_space line)))
+-- what stands behind the word of a check is no longer than the line
+pub short_check : (most : ℕ) (line : List ℕ) (parts : List ℕ × List ℕ) → length line ≤ most → check_in line ≡ Some parts → length parts.1 ≤ most
+short_check most line parts short is =
+    let P : Option (List ℕ × List ℕ) → Type 0 = HasFew most in
+    subst P is (more_than (length line) most (check_in line) short (first_behind (codes "is_capable") line))
+
+with_head : (most : ℕ) (front behind : List ℕ) → length behind ≤ most → HasFew most (head_with front behind)
+with_head most front behind short =
+    cond_both (length front == 0) (Some (None, behind)) (option_map (λ (name : List ℕ). (Some name, behind)) (behind_front (codes "fs_name ") front)) (HasFew most)
+    (λ none. short) (λ some. named (behind_front (codes "fs_name ") front))
+  where
+    named : (name : Option (List ℕ)) → HasFew most (option_map (λ (n : List ℕ). (Some n, behind)) name)
+    named None = tt
+    named (Some n) = short
+
+of_inode : (most : ℕ) (parts : Option (List ℕ × List ℕ)) → HasFew most parts → HasFew most (option_and_then (λ p. head_with p.0 p.1) parts)
+of_inode most None few = tt
+of_inode most (Some parts) few = with_head most parts.0 parts.1 few
+
+pub short_head : (most : ℕ) (parts : List ℕ × List ℕ) → length parts.1 ≤ most → HasFew most (head_in parts)
+short_head most parts short =
+    let inode : Option (List ℕ × List ℕ) = cut_first (codes " inode(path ") parts.1 in
+    cond_both (may_stand_before (codes "10 MDSAuthCap ") parts.0) (head_of parts.1) None (HasFew most)
+    (λ may. of_inode most inode (more_than (length parts.1) most inode short (first_behind (codes " inode(path ") parts.1))) (λ other. tt)
 
 -- both parts are no longer than the text
 abbrev AreParts : List ℕ → Option (List ℕ × List ℕ) → Type 0
@@ -95,17 +114,19 @@ less_taken zero text = omega arith
 less_taken (suc at) [] = omega arith
 less_taken (suc at) (b ∷ text) = omega (arith, less_taken at text)
 
-parts_below : (mark text : List ℕ) (at : ℕ) → AreParts text (cut_below mark text at)
-parts_below mark text zero = tt
-parts_below mark text (suc at) =
-    cond_both (starts_with nat_eq (drop at text) mark) (Some (take at text, drop (length mark) (drop at text))) (cut_below mark text at) (AreParts text)
-    (λ here. (less_taken at text, omega (arith, length-drop (length mark) (drop at text), length-drop at text))) (λ other. parts_below mark text at)
+parts_below : (test : List ℕ → Bool) (mark text : List ℕ) (at : ℕ) → AreParts text (cut_below test mark text at)
+parts_below test mark text zero = tt
+parts_below test mark text (suc at) =
+    let behind : List ℕ = drop (length mark) (drop at text) in
+    cond_both (starts_with nat_eq (drop at text) mark && test behind) (Some (take at text, behind)) (cut_below test mark text at) (AreParts text)
+    (λ here. (less_taken at text, omega (arith, length-drop (length mark) (drop at text), length-drop at text))) (λ other. parts_below test mark text at)
 
 abbrev IsShort : ℕ → Option CheckTexts → Type 0
 IsShort most check = IfSome check (λ c. length c.grants ≤ most)
 
-behind_cut : (most : ℕ) (mark text : List ℕ) (next : List ℕ → List ℕ → Option CheckTexts) → ((a b : List ℕ) → length a ≤ length text → length b ≤ length text → IsShort most (next a b)) → IsShort most (then_cut mark text next)
-behind_cut most mark text next each = by_parts (cut mark text) (parts_below mark text (length text))
+behind_cut : (most : ℕ) (test : List ℕ → Bool) (mark text : List ℕ) (next : List ℕ → List ℕ → Option CheckTexts)
+    → ((a b : List ℕ) → length a ≤ length text → length b ≤ length text → IsShort most (next a b)) → IsShort most (option_and_then (λ p. next p.0 p.1) (cut_below test mark text (length text)))
+behind_cut most test mark text next each = by_parts (cut_below test mark text (length text)) (parts_below test mark text (length text))
   where
     by_parts : (parts : Option (List ℕ × List ℕ)) → AreParts text parts → IsShort most (option_and_then (λ p. next p.0 p.1) parts)
     by_parts None fit = tt
@@ -131,7 +152,7 @@ abbrev of_grants : List ℕ → List ℕ → Option CheckTexts
 of_grants text grants = then_cut (codes ":") text (of_new_gid grants)
 
 abbrev of_rest : List ℕ → List ℕ → Option CheckTexts
-of_rest text behind = then_cut (codes " cap: MDSAuthCaps[") text of_grants
+of_rest text behind = then_cut_closed (codes " cap: MDSAuthCaps[") text of_grants
 
 module _ (most : ℕ) (grants : List ℕ) (small : length grants ≤ most) where
   short_uid : (new_gid new_uid mask gid text uid : List ℕ) → IsShort most (of_uid grants new_gid new_uid mask gid text uid)
@@ -142,25 +163,25 @@ module _ (most : ℕ) (grants : List ℕ) (small : length grants ≤ most) where
       by_inode (Some inode) = small
 
   short_gid : (new_gid new_uid mask text gid : List ℕ) → IsShort most (of_gid grants new_gid new_uid mask text gid)
-  short_gid new_gid new_uid mask text gid = behind_cut most (codes ") by caller ") text (of_uid grants new_gid new_uid mask gid) (λ a b p q. short_uid new_gid new_uid mask gid a b)
+  short_gid new_gid new_uid mask text gid = behind_cut most is_any (codes ") by caller ") text (of_uid grants new_gid new_uid mask gid) (λ a b p q. short_uid new_gid new_uid mask gid a b)
 
   short_mask : (new_gid new_uid text mask : List ℕ) → IsShort most (of_mask grants new_gid new_uid text mask)
-  short_mask new_gid new_uid text mask = behind_cut most (codes ":") text (of_gid grants new_gid new_uid mask) (λ a b p q. short_gid new_gid new_uid mask a b)
+  short_mask new_gid new_uid text mask = behind_cut most is_any (codes ":") text (of_gid grants new_gid new_uid mask) (λ a b p q. short_gid new_gid new_uid mask a b)
 
   short_new_uid : (new_gid text new_uid : List ℕ) → IsShort most (of_new_uid grants new_gid text new_uid)
-  short_new_uid new_gid text new_uid = behind_cut most (codes " mask ") text (of_mask grants new_gid new_uid) (λ a b p q. short_mask new_gid new_uid a b)
+  short_new_uid new_gid text new_uid = behind_cut most is_any (codes " mask ") text (of_mask grants new_gid new_uid) (λ a b p q. short_mask new_gid new_uid a b)
 
   short_new_gid : (text new_gid : List ℕ) → IsShort most (of_new_gid grants text new_gid)
-  short_new_gid text new_gid = behind_cut most (codes " new ") text (of_new_uid grants new_gid) (λ a b p q. short_new_uid new_gid a b)
+  short_new_gid text new_gid = behind_cut most is_any (codes " new ") text (of_new_uid grants new_gid) (λ a b p q. short_new_uid new_gid a b)
 
   short_rest : (text : List ℕ) → IsShort most (of_grants text grants)
-  short_rest text = behind_cut most (codes ":") text (of_new_gid grants) (λ a b p q. short_new_gid a b)
+  short_rest text = behind_cut most is_any (codes ":") text (of_new_gid grants) (λ a b p q. short_new_gid a b)
 
 -- the grants are no longer than what stands behind the head
 pub short_grants : (text : List ℕ) → IfSome (check_of text) (λ c. length c.grants ≤ length text)
 short_grants text =
-    behind_cut (length text) (codes "]") text of_rest
-    (λ front behind p q. behind_cut (length text) (codes " cap: MDSAuthCaps[") front of_grants (λ a grants r s. short_rest (length text) grants (omega (arith, p, s)) a))
+    behind_cut (length text) is_any (codes "]") text of_rest
+    (λ front behind p q. behind_cut (length text) is_closed (codes " cap: MDSAuthCaps[") front of_grants (λ a grants r s. short_rest (length text) grants (omega (arith, p, s)) a))
 
 pub near_fault : (text : List ℕ) (fault : SpecFault) → IsFault text fault → fault.at ≤ length text
 near_fault text fault is = omega (arith, ap (λ (f : SpecFault). f.at) is.2)

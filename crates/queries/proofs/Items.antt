@@ -1,7 +1,7 @@
 -- What is told of a log is one thing after the other, and its text tells which.
-use Rattle.std.proofs.Common.{◌≡◌, ◌⊎◌, inl, inr, ℕ, ◌+◌, ◌<◌, ◌≤◌, ◌^◌, ◌%◌, true, Option, Some, None, List, [], ◌∷◌, ◌++◌, drop, length, refl, sym, ap, ◌∙◌}
-use Rattle.std.proofs.Common.{append_assoc, arith}
-use Rattle.std.specs.Prelude.{codes, All, IfSome, bytes_eq, ◌==◌, if◌then◌else◌}
+use Rattle.std.proofs.Common.{◌≡◌, ◌⊎◌, inl, inr, ℕ, ◌+◌, ◌<◌, ◌≤◌, ◌^◌, ◌%◌, Bool, true, false, Option, Some, None, List, [], ◌∷◌, ◌++◌, drop, length, refl}
+use Rattle.std.proofs.Common.{sym, ap, ◌∙◌, append_assoc, arith}
+use Rattle.std.specs.Prelude.{codes, All, IfSome, bytes_eq, is_some, ◌==◌, if◌then◌else◌}
 use Rattle.std.specs.Fmt.{decimal}
 use Rattle.std.specs.List.{AllZip, flat_map, list_all}
 use Rattle.std.proofs.lemmas.Fmt.{decimal_by_steps}
@@ -36,21 +36,28 @@ use Rattle.queries.specs.declared.question.Values.{Values}
 use Rattle.queries.specs.Options.{option_name}
 use Rattle.queries.specs.Question.{AsksFor, IsFaultIn, verdict_on}
 use Rattle.queries.specs.Remarks.{asked_of, full_text}
-use Rattle.texts.specs.ScriptLines.{lines, longest_script}
-use Rattle.queries.specs.Checks.{CheckTexts, check_of, check_text}
+use Rattle.texts.specs.ScriptLines.{lines}
+use Rattle.queries.specs.Checks.{CheckTexts, HeadTexts, check_of, head_in}
+use Rattle.queries.specs.Before.{BeforeTexts, GivenTexts, given_of, known_of, said_before}
+use Rattle.queries.specs.AnyPath.{any_path_of, any_path_text}
 use Rattle.queries.specs.Items.{HasLines, IsTellable, Reported, SameOfLine, SameReported, lines_of, reported_in, reported_lines}
-use Rattle.queries.specs.Items.Reported.{answered, bad, formless, refused, unknown}
+use Rattle.queries.specs.Items.Reported.{answered, bad, formless, pathless, refused, unknown}
 use Rattle.queries.specs.Masks.{accesses_of}
-use Rattle.queries.specs.Reported.{AreReported, AreValues, IsAnswered, IsFaulty, IsReportOf, Says, SaysFault, SaysIf, SaysOf, answer_lines, passed_in}
-use Rattle.queries.specs.Reported.{passed_line, with_access}
-use Rattle.queries.proofs.Fitting.{AreShort, HasFew, all_asked, few_lines, few_passed_in, fits, more_than, near_fault, short_check, short_grants, short_lines}
+use Rattle.queries.specs.Reported.{AreReported, AreValues, IsAnswered, IsFaulty, IsReportOf, IsReported, Says, SaysBehind, SaysFault, SaysIf, State}
+use Rattle.queries.specs.Reported.{answer_lines, passed_line, path_or_root, pathless_line, said_line, with_access}
+use Rattle.queries.specs.Reported.AreReported.{no_more, one_more}
+use Rattle.queries.specs.Reported.IsReported.{checked, kept, passed_over}
+use Rattle.queries.proofs.LogLines.{few_passed, next_number}
+use Rattle.queries.proofs.AnyPaths.{has_small, one_any_path}
+use Rattle.queries.proofs.Fitting.{AreShort, HasFew, all_asked, few_lines, fits, near_fault, short_check, short_grants, short_head, short_lines}
 
 -- ---- how the lines begin
 
 -- behind the number
 abbrev said : Reported → List ℕ
 said (answered q) = full_text q
-said formless = codes "a check that is not as Ceph 16 writes it\n"
+said (pathless q) = codes "no path in this line: " ++ any_path_text q.access (any_path_of q)
+said formless = codes "a check that is not as an MDS writes it\n"
 said (unknown mask) = codes "unknown mask " ++ (quoted mask ++ codes "\n")
 said (refused fault) = codes "grants: " ++ (fault_word fault.kind ++ (codes " at " ++ (decimal fault.at ++ codes "\n")))
 said (bad option) = codes "bad value of --" ++ (option_name option ++ codes "\n")
@@ -63,6 +70,7 @@ bare_number number small = let plain = plain_number number small in rw plain ref
 
 laid_out : (number : ℕ) (reported : Reported) (s : List ℕ) → number < 2 ^ 64 → lines_of number reported ++ s ≡ behind_number number (said reported ++ s)
 laid_out number (answered q) s small = append_assoc (decimal number) (codes ": " ++ full_text q) s
+laid_out number (pathless q) s small = append_assoc (decimal number) (codes ": " ++ said (pathless q)) s
 laid_out number formless s small = append_assoc (decimal number) (codes ": " ++ said formless) s
 laid_out number (unknown mask) s small = append_assoc (decimal number) (codes ": " ++ said (unknown mask)) s
 laid_out number (refused fault) s small =
@@ -87,6 +95,7 @@ others (x ∷ xs) passed reported =
 
 abbrev tag : Reported → ℕ
 tag (answered q) = 0
+tag (pathless q) = 5
 tag formless = 1
 tag (unknown mask) = 2
 tag (refused fault) = 3
@@ -95,7 +104,7 @@ tag (bad option) = 4
 abbrev tag_at : List ℕ → ℕ
 tag_at text =
     let byte : ℕ = first_byte text in
-    if byte == 117 then 2 else (if byte == 103 then 3 else (if byte == 98 then 4 else (if first_byte (drop 1 text) == 32 then 1 else 0)))
+    if byte == 117 then 2 else (if byte == 103 then 3 else (if byte == 98 then 4 else (if byte == 110 then 5 else (if first_byte (drop 1 text) == 32 then 1 else 0))))
 
 of_answer : (q : Asked) (v : Verdict) (left : Option ℕ) (other : Option Otherwise) (s : List ℕ) → tag_at (remarked_text q v left other ++ s) ≡ 0
 of_answer q (Allowed grant) left other s = refl
@@ -103,6 +112,7 @@ of_answer q (Denied rules) left other s = refl
 
 has_tag : (reported : Reported) (s : List ℕ) → tag_at (said reported ++ s) ≡ tag reported
 has_tag (answered q) s = of_answer (asked_of q) (verdict_on q) (left_to_client (asked_of q) q.grants) (answered_otherwise (asked_of q) q.grants) s
+has_tag (pathless q) s = refl
 has_tag formless s = refl
 has_tag (unknown mask) s = refl
 has_tag (refused fault) s = refl
@@ -154,6 +164,8 @@ one_said : (x y : Reported) (s t : List ℕ) → IsTellable x → IsTellable y �
 one_said (answered q) (answered r) s t p o low too same =
     one_remark_to (asked_of q) (asked_of r) (verdict_on q) (verdict_on r) (left_to_client (asked_of q) q.grants) (left_to_client (asked_of r) r.grants) (answered_otherwise (asked_of q) q.grants) (answered_otherwise (asked_of r) r.grants) s t
     (is_remarked (asked_of q) q.grants p) (is_remarked (asked_of r) r.grants o) low too same
+one_said (pathless q) (pathless r) s t p o low too same =
+    one_any_path q.access r.access (any_path_of q) (any_path_of r) s t p.access o.access (has_small q p) (has_small r o) (append_cancel_left (codes "no path in this line: ") _ _ same)
 one_said formless formless s t p o low too same = (tt, append_cancel_left (said formless) s t same)
 one_said (unknown mask) (unknown other) s t p o low too same =
     before_a_line_feed mask other s t (sym (append_assoc (quoted mask) (codes "\n") s) ∙ append_cancel_left (codes "unknown mask ") _ _ same ∙ append_assoc (quoted other) (codes "\n") t)
@@ -201,14 +213,21 @@ module _ (number : ℕ) (small : number < 2 ^ 64) where
   one : (reported : Reported) (text : List ℕ) → IsTellable reported → text ≡ lines_of number reported → AreLines text
   one reported text fits is = ((number, reported) ∷ [], All-cons HasLines (number, reported) [] (small, fits) (All-nil HasLines), is ∙ sym (append-nil (lines_of number reported)))
 
-  of_accesses : (v : Values) (q : Question) → AsksFor v q → (accesses : List Access) → All HasNumber accesses → AreLines (flat_map (answer_lines number q) accesses)
-  of_accesses v q asks [] numbers = none [] refl
-  of_accesses v q asks (access ∷ accesses) numbers =
+  of_accesses : (v : Values) (q : Question) (has_path : Bool) → AsksFor v q → (accesses : List Access) → All HasNumber accesses → AreLines (flat_map (said_line has_path number q) accesses)
+  of_accesses v q has_path asks [] numbers = none [] refl
+  of_accesses v q true asks (access ∷ accesses) numbers =
       let reported : Reported = answered (with_access q access) in
-      let more = of_accesses v q asks accesses (All-tail HasNumber access accesses numbers) in (
+      let more = of_accesses v q true asks accesses (All-tail HasNumber access accesses numbers) in (
         (number, reported) ∷ more.0,
         All-cons HasLines (number, reported) more.0 (small, fits v q access asks (All-head HasNumber access accesses numbers)) more.1,
         ap (λ (r : List ℕ). answer_lines number q access ++ r) more.2,
+      )
+  of_accesses v q false asks (access ∷ accesses) numbers =
+      let reported : Reported = pathless (with_access q access) in
+      let more = of_accesses v q false asks accesses (All-tail HasNumber access accesses numbers) in (
+        (number, reported) ∷ more.0,
+        All-cons HasLines (number, reported) more.0 (small, fits v q access asks (All-head HasNumber access accesses numbers)) more.1,
+        ap (λ (r : List ℕ). pathless_line number q access ++ r) more.2,
       )
 
   of_fault : (check : CheckTexts) (v : Values) (fault : QuestionFault) (text : List ℕ) → v.grants.items ≡ check.grants → length check.grants < 2 ^ 64 → IsFaultIn v fault → SaysFault number fault text → AreLines text
@@ -216,19 +235,21 @@ module _ (number : ℕ) (small : number < 2 ^ 64) where
   of_fault check v (BadValue option) text same short first says = one (bad option) text tt says
   of_fault check v NoMemory text same short first says = absurd says
 
-  of_values : (fs : List ℕ) (check : CheckTexts) (v : Values) (text : List ℕ) → length check.grants < 2 ^ 64 → AreValues fs check v → IsAnswered number check v text ⊎ IsFaulty number v text → AreLines text
-  of_values fs check v text short values (inl says) =
-      let reported = of_accesses v says.question says.asks (accesses_of says.mask) (all_asked check says.mask says.is_mask) in
+  of_values : (given : GivenTexts) (path : List ℕ) (check : CheckTexts) (v : Values) (text : List ℕ) (has_path judged : Bool) → length check.grants < 2 ^ 64 → AreValues given path check v
+      → IsAnswered number has_path check v text judged ⊎ (IsFaulty number v text × (judged ≡ false)) → AreLines text
+  of_values given path check v text has_path judged short values (inl says) =
+      let reported = of_accesses v says.question has_path says.asks (accesses_of says.mask) (all_asked check says.mask says.is_mask) in
       (reported.0, reported.1, says.more_is ∙ reported.2)
-  of_values fs check v text short values (inr says) = of_fault check v says.fault text values.grants short says.first says.says
+  of_values given path check v text has_path judged short values (inr says) = of_fault check v says.0.fault text values.grants short says.0.first says.0.says
 
-  of_check : (fs : List ℕ) (check : CheckTexts) (text : List ℕ) → length check.grants < 2 ^ 64 → Says fs number check text → AreLines text
-  of_check fs check text short (inl says) = one (unknown check.mask) text tt says.1
-  of_check fs check text short (inr says) = of_values fs check says.0 text short says.1 says.2
+  of_check : (given : GivenTexts) (check : CheckTexts) (text : List ℕ) (judged : Bool) → length check.grants < 2 ^ 64 → Says number given check text judged → AreLines text
+  of_check given check text judged short (inl says) = one (unknown check.mask) text tt says.1
+  of_check given check text judged short (inr says) = of_values given (path_or_root given.path) check says.0 text (is_some given.path) judged short says.1 says.2
 
-  of_form : (fs : List ℕ) (check : Option CheckTexts) (text : List ℕ) → IfSome check (λ c. length c.grants < 2 ^ 64) → SaysIf fs number check text → AreLines text
-  of_form fs None text short says = one formless text tt says
-  of_form fs (Some check) text short says = of_check fs check text short says
+  of_form : (fs : List ℕ) (name : Option (List ℕ)) (before : Option BeforeTexts) (check : Option CheckTexts) (text : List ℕ) (judged : Bool) → IfSome check (λ c. length c.grants < 2 ^ 64)
+      → SaysIf number fs name before check text judged → AreLines text
+  of_form fs name before None text judged short says = one formless text tt says.0
+  of_form fs name before (Some check) text judged short says = of_check (given_of fs name (known_of check before) check) check text judged short says
 
 -- the grants of a check in a line of a short log
 short_check_of : (most : ℕ) (text : List ℕ) → length text ≤ most → most < 2 ^ 63 → IfSome (check_of text) (λ c. length c.grants < 2 ^ 64)
@@ -238,18 +259,31 @@ short_check_of most text inside short = by_check (check_of text) (short_grants t
     by_check None fit = tt
     by_check (Some check) fit = omega (arith, fit, inside, short)
 
-of_line : (fs : List ℕ) (number most : ℕ) (behind : Option (List ℕ)) (text : List ℕ) → number < 2 ^ 64 → most < 2 ^ 63 → HasFew most behind → SaysOf fs number behind text → AreLines text
-of_line fs number most None text small short few says = none number small text says
-of_line fs number most (Some behind) text small short few says = of_form number small fs (check_of behind) text (short_check_of most behind few short) says
+of_head : (number : ℕ) (fs : List ℕ) (before : Option BeforeTexts) (most : ℕ) (head : Option HeadTexts) (text : List ℕ) (judged : Bool) → number < 2 ^ 64 → most < 2 ^ 63 → HasFew most head
+    → SaysBehind number fs before head text judged → AreLines text
+of_head number fs before most None text judged small short few says = one number small formless text tt says.0
+of_head number fs before most (Some (name, parts)) text judged small short few says = of_form number small fs name before (check_of parts) text judged (short_check_of most parts few short) says
 
-of_lines : (fs : List ℕ) (number most : ℕ) (log : List (List ℕ)) (text : List ℕ) → number + length log < 2 ^ 64 → most < 2 ^ 63 → AreShort most log → AreReported fs number log text → AreLines text
-of_lines fs number most [] text small short few reported = ([], All-nil HasLines, reported)
-of_lines fs number most (line ∷ log) text small short few reported =
-    let first = of_line fs number most (check_text line) reported.0 (omega (arith, small)) short (more_than (length line) most (check_text line) few.0 (short_check line)) reported.2 in
-    let more = of_lines fs (number + 1) most log reported.1 (omega (arith, small)) short few.1 reported.3 in
-    (first.0 ++ more.0, All-append HasLines first.0 more.0 first.1 more.1, reported.4 ∙ ap (λ (r : List ℕ). r ++ reported.1) first.2 ∙ ap (λ (r : List ℕ). flat_map reported_lines first.0 ++ r) more.2 ∙ sym (flat_map-append reported_lines first.0 more.0))
+of_line : {fs line text : List ℕ} {s next : State} (most : ℕ) → s.number < 2 ^ 64 → most < 2 ^ 63 → length line ≤ most → IsReported fs s line text next → AreLines text
+of_line {s} most small short few (kept before) = none s.number small [] refl
+of_line {s} most small short few (passed_over other without) = none s.number small [] refl
+of_line {fs} {line} {text} {s} most small short few (checked parts more judged other is says) =
+    of_head s.number fs (said_before s.before) most (head_in parts) more judged small short (short_head most parts (short_check most line parts few is)) says
 
-pub each_has_its_lines : (fs log reported : List ℕ) → length log ≤ longest_script → IsReportOf fs log reported → (xs : List (ℕ × Reported)) × All HasLines xs × (passed_in (lines log) < 2 ^ 64) × (reported ≡ reported_in xs (passed_in (lines log)))
-each_has_its_lines fs log reported short says =
-    let front = of_lines fs 1 (length log) (lines log) says.0 (omega (arith, short, few_lines log)) (omega (arith, short)) (short_lines log) says.1 in
-    (front.0, front.1, omega (arith, short, few_lines log, few_passed_in (lines log)), says.2 ∙ ap (λ (r : List ℕ). r ++ passed_line (passed_in (lines log))) front.2)
+of_lines : {fs text : List ℕ} {s end : State} (most : ℕ) (log : List (List ℕ)) → s.number + length log < 2 ^ 64 → most < 2 ^ 63 → AreShort most log → AreReported fs s log text end → AreLines text
+of_lines most [] small short few no_more = ([], All-nil HasLines, refl)
+of_lines most (line ∷ log) small short few (one_more first more says others) =
+    let here = of_line most (omega (arith, small)) short few.0 says in
+    let there = of_lines most log (omega (arith, small, next_number says)) short few.1 others in
+    (here.0 ++ there.0, All-append HasLines here.0 there.0 here.1 there.1, ap (λ (r : List ℕ). r ++ more) here.2 ∙ ap (λ (r : List ℕ). flat_map reported_lines here.0 ++ r) there.2 ∙ sym (flat_map-append reported_lines here.0 there.0))
+
+few_at_end : {fs text : List ℕ} {s end : State} (log : List (List ℕ)) → AreReported fs s log text end → end.passed ≤ s.passed + length log
+few_at_end [] no_more = omega arith
+few_at_end (line ∷ log) (one_more first more says others) = omega (arith, few_at_end log others, few_passed says)
+
+pub each_has_its_lines : (fs log reported : List ℕ) (judged : Bool) → length log < 2 ^ 62 → IsReportOf fs log reported judged
+    → (xs : List (ℕ × Reported)) × (passed : ℕ) × All HasLines xs × (passed < 2 ^ 64) × (reported ≡ reported_in xs passed)
+each_has_its_lines fs log reported judged short says =
+    let end : State = says.1 in
+    let front = of_lines (length log) (lines log) (omega (arith, short, few_lines log)) (omega (arith, short)) (short_lines log) says.2 in
+    (front.0, end.passed, front.1, omega (arith, short, few_lines log, few_at_end (lines log) says.2), says.3 ∙ ap (λ (r : List ℕ). r ++ passed_line end.passed) front.2)

@@ -9,7 +9,10 @@ pub mod ClientsReported
 pub mod ClientsBy
 pub mod Looked
 pub mod Linted
-pub mod Cuts
+pub mod Marks
 pub mod LogLines
+pub mod LogPieces
 pub mod Fitting
+pub mod AnyPaths
 pub mod Items
+pub mod WrittenChecks

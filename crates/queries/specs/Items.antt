@@ -1,5 +1,5 @@
 -- The things that are told of a log, each with the number of its line.
-use Rattle.std.specs.Prelude.{◌≡◌, ℕ, ◌<◌, ◌≤◌, ◌^◌, List, ◌++◌, length, All, codes}
+use Rattle.std.specs.Prelude.{◌≡◌, ℕ, ◌<◌, ◌≤◌, ◌^◌, Bool, List, ◌++◌, length, All, codes}
 use Rattle.std.specs.Fmt.{decimal}
 use Rattle.std.specs.List.{AllZip, flat_map}
 use Rattle.capspec.specs.declared.fault.SpecFault.{SpecFault}
@@ -13,12 +13,14 @@ use Rattle.queries.specs.declared.question.Question.{Question}
 use Rattle.queries.specs.Options.{option_name}
 use Rattle.queries.specs.Question.{verdict_on}
 use Rattle.queries.specs.Remarks.{asked_of}
-use Rattle.texts.specs.ScriptLines.{lines, longest_script}
-use Rattle.queries.specs.Reported.{IsReportOf, answer_lines, formless_line, passed_in, passed_line, unknown_line}
+use Rattle.queries.specs.AnyPath.{any_path_of}
+use Rattle.queries.specs.Reported.{IsReportOf, answer_lines, formless_line, passed_line, pathless_line, unknown_line}
 
--- the answer to a question of a check; that it has another form; an unknown mask; what is wrong with its grants, or with another part
+-- the answer to a question of a check, at its path or where none is known; that it has another form; an unknown mask; what is wrong with its
+-- grants, or with another part
 pub data Reported : Type 0 where
   answered : Question → Reported
+  pathless : Question → Reported
   formless : Reported
   unknown : List ℕ → Reported
   refused : SpecFault → Reported
@@ -27,6 +29,7 @@ pub data Reported : Type 0 where
 -- its lines, behind the number
 abbrev pub lines_of : ℕ → Reported → List ℕ
 lines_of number (answered q) = answer_lines number q q.access
+lines_of number (pathless q) = pathless_line number q q.access
 lines_of number formless = formless_line number
 lines_of number (unknown mask) = unknown_line number mask
 lines_of number (refused fault) = unread_line (decimal number) fault
@@ -44,6 +47,7 @@ reported_in all passed = flat_map reported_lines all ++ passed_line passed
 -- its numbers fit
 abbrev pub IsTellable : Reported → Type 0
 IsTellable (answered q) = HasNumbers (asked_of q) q.grants
+IsTellable (pathless q) = HasNumbers (asked_of q) q.grants
 IsTellable (refused fault) = fault.at < 2 ^ 64
 IsTellable reported = Unit {0}
 
@@ -59,6 +63,7 @@ AnswerAlike q r =
 
 abbrev pub SameReported : Reported → Reported → Type 0
 SameReported (answered q) (answered r) = AnswerAlike q r
+SameReported (pathless q) (pathless r) = (q.access ≡ r.access) × (any_path_of q ≡ any_path_of r)
 SameReported formless formless = Unit {0}
 SameReported (unknown mask) (unknown other) = mask ≡ other
 SameReported (refused fault) (refused other) = fault ≡ other
@@ -76,5 +81,5 @@ OneLog = (xs ys : List (ℕ × Reported)) (m n : ℕ) → All HasLines xs → Al
 
 -- what is told of a log that is not too long is such things
 abbrev pub EachHasItsLines : Type 0
-EachHasItsLines = (fs log reported : List ℕ) → length log ≤ longest_script → IsReportOf fs log reported
-    → (xs : List (ℕ × Reported)) × All HasLines xs × (passed_in (lines log) < 2 ^ 64) × (reported ≡ reported_in xs (passed_in (lines log)))
+EachHasItsLines = (fs log reported : List ℕ) (judged : Bool) → length log < 2 ^ 62 → IsReportOf fs log reported judged
+    → (xs : List (ℕ × Reported)) × (passed : ℕ) × All HasLines xs × (passed < 2 ^ 64) × (reported ≡ reported_in xs passed)

@@ -10,7 +10,12 @@ pub mod Attempts
 pub mod ClientsBy
 pub mod Clients
 pub mod ClientsReported
+pub mod Cuts
 pub mod Checks
+pub mod Before
+pub mod WrittenChecks
+pub mod AnyPath
 pub mod Masks
 pub mod Reported
+pub mod LogPieces
 pub mod Items

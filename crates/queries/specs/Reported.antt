@@ -1,7 +1,8 @@
 -- What is told of a log, line by line.
-use Rattle.std.specs.Prelude.{◌≡◌, ◌⊎◌, ℕ, ◌+◌, ◌==◌, Option, Some, None, List, [], ◌∷◌, ◌++◌, length, codes, if◌then◌else◌}
+use Rattle.std.specs.Prelude.{◌≡◌, ◌⊎◌, ℕ, ◌+◌, ◌==◌, Bool, true, false, ◌&&◌, ◌||◌, Option, Some, None, is_some, option_map, List, [], ◌∷◌, ◌++◌, length}
+use Rattle.std.specs.Prelude.{codes, if◌then◌else◌}
 use Rattle.std.specs.Fmt.{decimal}
-use Rattle.std.specs.List.{flat_map}
+use Rattle.std.specs.List.{flat_map, list_all}
 use Rattle.capgrant.specs.declared.access.Access.{Access}
 use Rattle.queries.specs.declared.fault.QuestionFault.{QuestionFault}
 use Rattle.queries.specs.declared.fault.QuestionFault.TheVariants.{BadValue, Grants, NoMemory}
@@ -13,18 +14,23 @@ use Rattle.queries.specs.Remarks.{full_text}
 use Rattle.texts.specs.Quoting.{quoted}
 use Rattle.texts.specs.Standing.{unread_line}
 use Rattle.texts.specs.ScriptLines.{lines}
+use Rattle.queries.specs.declared.log_text.LogState.{LogState}
 use Rattle.queries.specs.declared.mask.Mask.{Mask}
-use Rattle.queries.specs.Checks.{CheckTexts, check_of, check_text}
+use Rattle.queries.specs.Checks.{CheckTexts, HeadTexts, check_in, check_of, head_in}
+use Rattle.queries.specs.Before.{BeforeTexts, GivenTexts, before_in, given_of, known_of, said_before}
+use Rattle.queries.specs.AnyPath.{any_path_of, any_path_text}
+use Rattle.queries.specs.declared.any_path.AnyPath.{AnyPath}
+use Rattle.queries.specs.declared.any_path.AnyPath.TheVariants.{Anywhere, Nowhere, Somewhere}
 use Rattle.queries.specs.Masks.{IsMaskOf, accesses_of}
 
--- the values of a question by the parts of a check: to read, for a caller without further groups
-pub record AreValues (name : List ℕ) (check : CheckTexts) (v : Values) : Type 0 where
+-- the values of a question by the parts of a check, and by what is given beside it: to read, at this path
+pub record AreValues (given : GivenTexts) (at : List ℕ) (check : CheckTexts) (v : Values) : Type 0 where
   pub grants : v.grants.items ≡ check.grants
-  pub fs : v.fs.items ≡ name
+  pub fs : v.fs.items ≡ given.fs
   pub uid : v.uid.items ≡ check.uid
   pub gid : v.gid.items ≡ check.gid
-  pub groups : v.groups ≡ None
-  pub path : v.path.items ≡ check.inode.path
+  pub groups : option_map (λ groups. groups.items) v.groups ≡ given.groups
+  pub path : v.path.items ≡ at
   pub owner : v.owner.items ≡ check.inode.owner
   pub group : v.group.items ≡ check.inode.group
   pub mode : v.mode.items ≡ check.inode.mode
@@ -41,7 +47,25 @@ answer_lines number q access = decimal number ++ (codes ": " ++ full_text (with_
 
 -- a line for a check of another form
 abbrev pub formless_line : ℕ → List ℕ
-formless_line number = decimal number ++ codes ": a check that is not as Ceph 16 writes it\n"
+formless_line number = decimal number ++ codes ": a check that is not as an MDS writes it\n"
+
+-- behind the number of the line, what is answered to the question of this access where no path is known
+abbrev pub pathless_line : ℕ → Question → Access → List ℕ
+pathless_line number q access = decimal number ++ (codes ": no path in this line: " ++ any_path_text access (any_path_of (with_access q access)))
+
+-- it is the same at each path
+abbrev pub is_sure : AnyPath → Bool
+is_sure (Anywhere grant) = true
+is_sure (Somewhere grant) = false
+is_sure Nowhere = true
+
+-- what is answered to the question of this access, where its path is known, or is not
+abbrev pub said_line : Bool → ℕ → Question → Access → List ℕ
+said_line has_path number q access = if has_path then answer_lines number q access else pathless_line number q access
+
+-- whether that is an answer
+abbrev pub is_answer : Bool → Question → Access → Bool
+is_answer has_path q access = has_path || is_sure (any_path_of (with_access q access))
 
 -- a line for a mask that is no number, or has other bits
 abbrev pub unknown_line : ℕ → List ℕ → List ℕ
@@ -53,13 +77,14 @@ SaysFault number (Grants refused) line = line ≡ unread_line (decimal number) r
 SaysFault number (BadValue option) line = line ≡ decimal number ++ (codes ": bad value of --" ++ (option_name option ++ codes "\n"))
 SaysFault number NoMemory line = ⊥
 
--- the answers for all that the mask asks for
-pub record IsAnswered (number : ℕ) (check : CheckTexts) (v : Values) (more : List ℕ) : Type 0 where
+-- the answers for all that the mask asks for, and whether each is one
+pub record IsAnswered (number : ℕ) (has_path : Bool) (check : CheckTexts) (v : Values) (more : List ℕ) (judged : Bool) : Type 0 where
   pub mask : Mask
   pub question : Question
   pub is_mask : IsMaskOf check mask
   pub asks : AsksFor v question
-  pub more_is : more ≡ flat_map (answer_lines number question) (accesses_of mask)
+  pub more_is : more ≡ flat_map (said_line has_path number question) (accesses_of mask)
+  pub judged_is : judged ≡ list_all (is_answer has_path question) (accesses_of mask)
 
 -- or the first fault of its values
 pub record IsFaulty (number : ℕ) (v : Values) (more : List ℕ) : Type 0 where
@@ -67,47 +92,72 @@ pub record IsFaulty (number : ℕ) (v : Values) (more : List ℕ) : Type 0 where
   pub first : IsFaultIn v fault
   pub says : SaysFault number fault more
 
--- what is told of a check
-abbrev pub Says : List ℕ → ℕ → CheckTexts → List ℕ → Type 0
-Says fs number check more =
-    (((mask : Mask) → ¬ IsMaskOf check mask) × (more ≡ unknown_line number check.mask))
-    ⊎ ((v : Values) × AreValues fs check v × (IsAnswered number check v more ⊎ IsFaulty number v more))
+-- the root, where no path is known
+abbrev pub path_or_root : Option (List ℕ) → List ℕ
+path_or_root None = codes "/"
+path_or_root (Some path) = path
 
--- the same of a text that should be one
-abbrev pub SaysIf : List ℕ → ℕ → Option CheckTexts → List ℕ → Type 0
-SaysIf fs number None more = more ≡ formless_line number
-SaysIf fs number (Some check) more = Says fs number check more
+-- what is told of a check, with what is given beside it, and whether that is an answer
+abbrev pub Says : ℕ → GivenTexts → CheckTexts → List ℕ → Bool → Type 0
+Says number given check more judged =
+    (((mask : Mask) → ¬ IsMaskOf check mask) × (more ≡ unknown_line number check.mask) × (judged ≡ false))
+    ⊎ ((v : Values) × AreValues given (path_or_root given.path) check v × (IsAnswered number (is_some given.path) check v more judged ⊎ (IsFaulty number v more × (judged ≡ false))))
 
--- of what stands behind the head of a check; nothing of another line
-abbrev pub SaysOf : List ℕ → ℕ → Option (List ℕ) → List ℕ → Type 0
-SaysOf fs number None more = more ≡ []
-SaysOf fs number (Some text) more = SaysIf fs number (check_of text) more
+-- the same of a text that should be one, with a file system where it names none, and what the line before it says
+abbrev pub SaysIf : ℕ → List ℕ → Option (List ℕ) → Option BeforeTexts → Option CheckTexts → List ℕ → Bool → Type 0
+SaysIf number fs name before None more judged = (more ≡ formless_line number) × (judged ≡ false)
+SaysIf number fs name before (Some check) more judged = Says number (given_of fs name (known_of check before) check) check more judged
 
--- what is told of a line of this number
-abbrev pub IsReported : List ℕ → ℕ → List ℕ → List ℕ → Type 0
-IsReported fs number line more = SaysOf fs number (check_text line) more
+-- by the head of a check
+abbrev pub SaysBehind : ℕ → List ℕ → Option BeforeTexts → Option HeadTexts → List ℕ → Bool → Type 0
+SaysBehind number fs before None more judged = (more ≡ formless_line number) × (judged ≡ false)
+SaysBehind number fs before (Some (name, parts)) more judged = SaysIf number fs name before (check_of parts) more judged
 
--- of these lines, from this number on
-abbrev pub AreReported : List ℕ → ℕ → List (List ℕ) → List ℕ → Type 0
-AreReported fs number [] reported = reported ≡ []
-AreReported fs number (line ∷ lines) reported = (first more : List ℕ) × IsReported fs number line first × AreReported fs (number + 1) lines more × (reported ≡ first ++ more)
+-- ---- line by line
 
--- 1 for a line that is passed over, and else 0: it has a byte, and is no check
-abbrev pub passed_if : ℕ → Option (List ℕ) → ℕ
-passed_if bytes None = if bytes == 0 then 0 else 1
-passed_if bytes (Some text) = 0
+-- where the telling of a log is: the number of the next line, how many were passed over, whether each check was judged, and the last line that
+-- says something of the next check
+pub record State : Type 0 where
+  pub number : ℕ
+  pub passed : ℕ
+  pub judged : Bool
+  pub before : List ℕ
 
-abbrev pub passed_over : List ℕ → ℕ
-passed_over line = passed_if (length line) (check_text line)
+-- the same of what the code has
+abbrev pub state_of : LogState → State
+state_of s = record { number = s.number; passed = s.passed; judged = s.is_judged; before = s.before.items }
 
--- how many of these lines are
-abbrev pub passed_in : List (List ℕ) → ℕ
-passed_in [] = 0
-passed_in (line ∷ lines) = passed_over line + passed_in lines
+abbrev pub start : State
+start = record { number = 1; passed = 0; judged = true; before = [] }
+
+-- behind a line that is no check
+abbrev pub behind_other : State → List ℕ → State
+behind_other s line = record s { number = s.number + 1; passed = s.passed + (if length line == 0 then 0 else 1) }
+
+-- the line says something of the next check
+abbrev pub keeping : State → List ℕ → State
+keeping s line = record s { before = line }
+
+-- behind a check, which was judged, or was not
+abbrev pub behind_check : State → Bool → State
+behind_check s judged = record s { number = s.number + 1; judged = s.judged && judged; before = [] }
+
+-- What is told of a line, and where the telling is then: nothing of one that says something of the next check, nor of another that is no check;
+-- of a check what is said, by what the line before it says.
+pub data IsReported (fs : List ℕ) (s : State) (line : List ℕ) : List ℕ → State → Type 0 where
+  kept : is_some (before_in line) ≡ true → IsReported fs s line [] (keeping (behind_other s line) line)
+  passed_over : is_some (before_in line) ≡ false → check_in line ≡ None → IsReported fs s line [] (behind_other s line)
+  checked : (parts : List ℕ × List ℕ) (more : List ℕ) (judged : Bool) → is_some (before_in line) ≡ false → check_in line ≡ Some parts
+      → SaysBehind s.number fs (said_before s.before) (head_in parts) more judged → IsReported fs s line more (behind_check s judged)
+
+-- of these lines, one after the other
+pub data AreReported (fs : List ℕ) : State → List (List ℕ) → List ℕ → State → Type 0 where
+  no_more : {s : State} → AreReported fs s [] [] s
+  one_more : {s next end : State} {line : List ℕ} {lines : List (List ℕ)} (first more : List ℕ) → IsReported fs s line first next → AreReported fs next lines more end → AreReported fs s (line ∷ lines) (first ++ more) end
 
 abbrev pub passed_line : ℕ → List ℕ
 passed_line passed = codes "lines that are no check of policy: " ++ (decimal passed ++ codes "\n")
 
--- what is told of each line of a log, and how many are passed over
-abbrev pub IsReportOf : List ℕ → List ℕ → List ℕ → Type 0
-IsReportOf fs log reported = (front : List ℕ) × AreReported fs 1 (lines log) front × (reported ≡ front ++ passed_line (passed_in (lines log)))
+-- what is told of each line of a log, and how many are passed over; and whether each check of it is judged
+abbrev pub IsReportOf : List ℕ → List ℕ → List ℕ → Bool → Type 0
+IsReportOf fs log reported judged = (front : List ℕ) × (end : State) × AreReported fs start (lines log) front end × (reported ≡ front ++ passed_line end.passed) × (judged ≡ end.judged)

@@ -6,11 +6,14 @@
 //! What reads a command line takes text, so bytes are spelled as text here, and spelled back.
 #![tactic(auto)]
 
+mod any_path;
 mod attempt;
+mod before;
 mod check;
 mod clients;
 mod clients_by;
 mod comparing;
+mod cuts;
 mod fault;
 mod grant_text;
 mod laws;
@@ -32,7 +35,7 @@ pub use clients::{Telling, WhoAnswer, who_lines};
 pub use comparing::{CompareFault, compare};
 pub use fault::QuestionFault;
 pub use linting::{lint_by, lint_text};
-pub use log_text::log_lines;
+pub use log_text::LogTeller;
 pub use mds::{MdsAnswer, MdsFault, NotRead, mds_grants};
 pub use options::Opt;
 pub use question::{Asking, Question, Values};

@@ -1,8 +1,10 @@
 //! The values that a check has for a question.
-ghost use Rattle.std.specs.Prelude.{◌≡◌, None, OnOk};
+ghost use Rattle.std.specs.Prelude.{◌≡◌, None, OnOk, option_map};
+ghost use Rattle.queries.specs.Before.{given_texts_of};
 ghost use Rattle.queries.specs.Checks.{texts_of};
-ghost use Rattle.queries.specs.Reported.{AreValues};
+ghost use Rattle.queries.specs.Reported.{AreValues, path_or_root};
 
+use crate::before::Given;
 use crate::check::Check;
 use crate::question::Values;
 use std::alloc::{AllocError, Global};
@@ -27,22 +29,49 @@ pub fn no_values(alloc: Global) -> Values
     }
 }
 
-/// Puts the parts of a check in the place of the values, with the name of the file system, and to read for the access. Only memory can
-/// be missing.
-pub fn fill(values: &mut Values, fs: &[u8], check: &Check<'_>) -> Result<(), AllocError>
+/// Puts the parts of a check in the place of the values, with what is given beside it, and to read for the access; at the root where no path is
+/// known. Only memory can be missing.
+pub fn fill(values: &mut Values, given: &Given<'_>, check: &Check<'_>) -> Result<(), AllocError>
     requires groups { values.old.groups ≡ None }
     requires addr { values.old.addr ≡ None }
-    ensures { OnOk result (AreValues fs.now (texts_of check.now) values.new) }
+    ensures { OnOk result (AreValues (given_texts_of given.now) (path_or_root (given_texts_of given.now).path) (texts_of check.now) values.new) }
 {
     put(&mut values.grants, check.grants)?;
-    put(&mut values.fs, fs)?;
+    put(&mut values.fs, given.fs)?;
     put(&mut values.uid, check.uid)?;
     put(&mut values.gid, check.gid)?;
-    put(&mut values.path, check.inode.path)?;
+    put(&mut values.path, path_or_root(given.path))?;
     put(&mut values.owner, check.inode.owner)?;
     put(&mut values.group, check.inode.group)?;
     put(&mut values.mode, check.inode.mode)?;
-    put(&mut values.access, b"read")
+    put(&mut values.access, b"read")?;
+    put_groups(&mut values.groups, *values.grants.allocator(), given.groups)
+}
+
+// The root, where no path is known.
+fn path_or_root(path: Option<&[u8]>) -> &[u8]
+    ensures { result.now ≡ path_or_root (option_map (λ path. path.now) path.entry) }
+{
+    match path {
+        Some(path) => path,
+        None => b"/",
+    }
+}
+
+// Puts the groups in the place of none, where there are some.
+fn put_groups(
+    groups: &mut Option<Vec<u8>>,
+    alloc: Global,
+    given: Option<&[u8]>,
+) -> Result<(), AllocError>
+    requires { groups.old ≡ None }
+    ensures { OnOk result (option_map (λ groups. groups.items) groups.new ≡ option_map (λ groups. groups.now) given.entry) }
+{
+    let Some(text) = given else {
+        return Ok(());
+    };
+    *groups = Some(Vec::from_slice(alloc, text)?);
+    Ok(())
 }
 
 // Puts bytes in the place of others.

@@ -1,6 +1,6 @@
 use Rattle.std.proofs.Common.{refl}
 use Rattle.queries.specs.Checks.{check_of, texts_of}
-use Rattle.queries.proofs.Cuts.{nothing_read}
+use Rattle.queries.proofs.Marks.{nothing_read}
 use Rattle.queries.proofs.check.read_check.Goals as goal
 
 pub returns-in_err-text : goal.returns-in_err-text

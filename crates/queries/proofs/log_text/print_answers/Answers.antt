@@ -1,16 +1,24 @@
-use Rattle.std.proofs.Common.{◌++◌, ap, ◌∙◌, arith}
-use Rattle.std.specs.Prelude.{codes}
-use Rattle.std.specs.Fmt.{decimal}
+use Rattle.std.proofs.Common.{Bool, ◌++◌, ap, sym, take, ◌∙◌, arith}
+use Rattle.std.specs.Prelude.{◌&&◌}
+use Rattle.std.specs.List.{list_all}
+use Rattle.std.proofs.lemmas.List.Folds.{list_all_more}
 use Rattle.queries.specs.declared.question.Question.{Question}
-use Rattle.queries.specs.Remarks.{full_text}
 use Rattle.texts.proofs.Texts.{texts-more}
-use Rattle.queries.specs.Reported.{answer_lines}
+use Rattle.queries.specs.Reported.{is_answer, said_line}
 use Rattle.queries.proofs.log_text.print_answers.Goals as goal
 
 pub loop-access-preserved : goal.loop-access-preserved
-loop-access-preserved c = record {
-  same = λ access. c.loop-access.invariant.same access;
-  printed =
-      texts-more (answer_lines c.args.number c.args.question) c.args.reported.now.items c.loop-access.reported.items _ c.args.accesses.now c.loop-access.access-index _ (omega arith) c.loop-access.invariant.printed
-      (c.in_ok-print_answer.ensures ∙ ap (λ (q : Question). c.loop-access.reported.items ++ (decimal c.args.number ++ (codes ": " ++ full_text q))) (c.loop-access.invariant.same _));
-}
+loop-access-preserved c =
+    let has = c.args.has_path in
+    let asked = c.args.question in
+    let said = c.in_ok-is_answer.ensures in
+    record {
+      same = λ access. c.loop-access.invariant.same access;
+      printed =
+          texts-more (said_line has c.args.number asked) c.args.reported.now.items c.loop-access.reported.items _ c.args.accesses.now c.loop-access.access-index _ (omega arith) c.loop-access.invariant.printed
+          (said.printed ∙ ap (λ (q : Question). c.loop-access.reported.items ++ said_line has c.args.number q q.access) (c.loop-access.invariant.same _));
+      judged =
+          ap (λ (b : Bool). b && c.in_ok-is_answer.is_answer) c.loop-access.invariant.judged
+          ∙ ap (λ (b : Bool). list_all (is_answer has asked) (take c.loop-access.access-index c.args.accesses.now) && b) (said.judged ∙ ap (λ (q : Question). is_answer has q q.access) (c.loop-access.invariant.same _))
+          ∙ sym (list_all_more (is_answer has asked) c.args.accesses.now c.loop-access.access-index _ (omega arith));
+    }

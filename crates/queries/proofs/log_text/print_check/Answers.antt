@@ -1,44 +1,55 @@
-use Rattle.std.proofs.Common.{inl, inr, ap, ◌∙◌}
-use Rattle.std.specs.Prelude.{Err, Ok, OnOk, Result}
-use Rattle.std.specs.List.{flat_map}
-use Rattle.queries.specs.Reported.{answer_lines}
+use Rattle.std.proofs.Common.{Bool, List, inl, inr, ap, refl, ◌∙◌}
+use Rattle.std.specs.List.{flat_map, list_all}
+use Rattle.capgrant.specs.declared.access.Access.{Access}
+use Rattle.queries.specs.Before.{given_texts_of}
+use Rattle.queries.specs.Reported.{is_answer, said_line, unknown_line}
+use Rattle.std.specs.Prelude.{is_some}
 use Rattle.queries.proofs.log_text.print_check.Goals as goal
 
-on_ok : {T E P Q : Type 0} (r : Result T E) → OnOk r P → (P → Q) → OnOk r Q
-on_ok (Ok x) given then = then given
-on_ok (Err e) given then = tt
+pub returns-in_default : goal.returns-in_default
+returns-in_default c = (unknown_line c.args.number c.args.check.now.mask.now, c.in_ok-print_unknown.ensures, inl (c.in_default.ensures, refl, refl))
 
 pub returns-in-Ok : goal.returns-in-Ok
 returns-in-Ok c =
-    let answers = flat_map (answer_lines c.args.number c.in-Ok.question) in
-    on_ok c.print_answers.result c.print_answers.ensures (λ reported. (
-      answers c.as_slice.result.now,
-      reported,
+    let question = c.in-Ok.question in
+    let has_path : Bool = is_some (given_texts_of c.args.given.now).path in
+    let asked = c.as_slice.ensures.value ∙ c.in_ok-asked.ensures in (
+      flat_map (said_line c.has_path-has_path.result c.args.number question) c.as_slice.result.now,
+      c.in_ok-is_judged.ensures.printed,
       inr (
         c.fill.new.values,
         c.in_ok-fill.ensures,
         inl (record {
           mask = c.in-Some.mask;
-          question = c.in-Ok.question;
+          question = question;
           is_mask = c.in-Some.ensures;
           asks = c.in-Ok.ensures.ok;
-          more_is = ap answers (c.as_slice.ensures.value ∙ c.in_ok-asked.ensures);
+          more_is =
+              ap (λ (has : Bool). flat_map (said_line has c.args.number question) c.as_slice.result.now) c.has_path-has_path.ensures
+              ∙ ap (λ (accesses : List Access). flat_map (said_line has_path c.args.number question) accesses) asked;
+          judged_is =
+              c.in_ok-is_judged.ensures.judged
+              ∙ ap (λ (has : Bool). list_all (is_answer has question) c.as_slice.result.now) c.has_path-has_path.ensures
+              ∙ ap (λ (accesses : List Access). list_all (is_answer has_path question) accesses) asked;
         }),
       ),
-    ))
+    )
 
 pub returns : goal.returns
 returns c =
-    on_ok c.print_fault.result c.print_fault.ensures (λ reported. (
+    let reported = c.in_ok-print_fault.ensures in (
       reported.0,
       reported.1,
       inr (
         c.fill.new.values,
         c.in_ok-fill.ensures,
-        inr (record {
-          fault = c.in-Err.fault;
-          first = c.in-Err.ensures.err;
-          says = reported.2;
-        }),
+        inr (
+          record {
+            fault = c.in-Err.fault;
+            first = c.in-Err.ensures.err;
+            says = reported.2;
+          },
+          refl,
+        ),
       ),
-    ))
+    )

@@ -1,0 +1,103 @@
+//! What grants say to a check whose path is not known.
+ghost use Rattle.std.specs.Prelude.{◌≡◌, ◌++◌, OnOk};
+ghost use Rattle.queries.specs.AnyPath.{any_path_text};
+
+use crate::question::Question;
+use capbits::print;
+use capgrant::{Access, Verdict, verdict};
+use capspec::Grant;
+use std::alloc::{AllocError, Global};
+
+/// What they say wherever the inode is.
+#[derive(Clone, Copy)]
+pub enum AnyPath {
+    /// The grant of this number allows it at each path.
+    Anywhere(u32),
+    /// It is allowed in the directory of the grant of this number, and not at each path.
+    Somewhere(usize),
+    /// It is allowed at no path.
+    Nowhere,
+}
+
+impl AnyPath {
+    ghost use Rattle.queries.specs.Reported.{is_sure};
+
+    /// Whether it is the same at each path.
+    pub fn is_sure(self) -> bool
+        ensures { result ≡ is_sure self }
+    {
+        match self {
+            AnyPath::Anywhere(_) | AnyPath::Nowhere => true,
+            AnyPath::Somewhere(_) => false,
+        }
+    }
+}
+
+impl Question {
+    ghost use Rattle.std.specs.Prelude.{◌≡◌, IfOk, map};
+    ghost use Rattle.queries.specs.AnyPath.{any_path_of, is_allowed_in, somewhere, with_path};
+    ghost use Rattle.queries.specs.Question.{verdict_on};
+
+    /// What the grants say to it at any path. Only memory can be missing.
+    pub fn at_any_path(&self, alloc: Global) -> Result<AnyPath, AllocError>
+        ensures { IfOk result (λ any. any ≡ any_path_of self.now) }
+    {
+        match self.judge_at(&[]) {
+            Verdict::Allowed { grant } => Ok(AnyPath::Anywhere(grant)),
+            Verdict::Denied { rules: _ } => self.somewhere(alloc),
+        }
+    }
+
+    // The first grant in whose directory it is allowed.
+    fn somewhere(&self, alloc: Global) -> Result<AnyPath, AllocError>
+        ensures { IfOk result (λ any. any ≡ somewhere self.now 1 self.now.grants) }
+    {
+        let grants = self.grants.as_slice();
+        for (place, grant) in grants.iter().enumerate() {
+            if self.is_allowed_in(alloc, grant)? {
+                return Ok(AnyPath::Somewhere(place + 1));
+            }
+        }
+        Ok(AnyPath::Nowhere)
+    }
+
+    // Whether some grant allows it in the directory that this one is for.
+    fn is_allowed_in(&self, alloc: Global, grant: &Grant) -> Result<bool, AllocError>
+        ensures { IfOk result (λ allowed. allowed ≡ is_allowed_in self.now grant.now) }
+    {
+        let names = grant.path.names(alloc)?;
+        let verdict = self.judge_at(names.as_slice());
+        Ok(matches!(verdict, Verdict::Allowed { .. }))
+    }
+
+    // What the grants say at the path with these names.
+    fn judge_at(&self, names: &[&[u8]]) -> Verdict
+        ensures { result ≡ verdict_on (with_path self.now (map (λ name. name.now) names.now)) }
+    {
+        verdict(
+            &self.grants,
+            &self.fs,
+            &self.caller,
+            names,
+            &self.attr,
+            self.access,
+        )
+    }
+}
+
+/// Appends what is said of it, with a line feed. `AllocError` where no memory is left for it.
+pub fn print_any_path(text: &mut Vec<u8>, access: Access, any: AnyPath) -> Result<(), AllocError>
+    ensures { OnOk result (text.new.items ≡ text.old.items ++ any_path_text access any) }
+{
+    match any {
+        AnyPath::Anywhere(grant) => print(
+            text,
+            format_args!("allowed {access} at any path, grant {grant}\n"),
+        ),
+        AnyPath::Somewhere(grant) => print(
+            text,
+            format_args!("depends on it: {access} grant {grant}\n"),
+        ),
+        AnyPath::Nowhere => print(text, format_args!("denied {access} at any path\n")),
+    }
+}
