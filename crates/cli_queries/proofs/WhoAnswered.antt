@@ -1,7 +1,7 @@
 -- An auth list that was read, and what is told of it; or that is none, or names several file systems.
 use Rattle.std.proofs.Common.{◌≡◌, ◌≤◌, ℕ, Bool, List, ◌++◌, Option, None, Some, inl, inr, sym, ap, subst, ◌∙◌}
 use Rattle.std.specs.Io.KnownBytes.{Appends, Consumes, IsAtEnd}
-use Rattle.std.specs.Prelude.{Err, IfErr, IfOk, IfSome, IsErrAnd, Ok, OnOk, Result, length, if◌then◌else◌}
+use Rattle.std.specs.Prelude.{Err, IfErr, IfOk, IfSome, IsErrAnd, Ok, OnOk, Result, length}
 use Rattle.std.proofs.lemmas.List.{append-nil}
 use Rattle.ceph_input.specs.declared.auth_fault.AuthFault.{AuthFault}
 use Rattle.ceph_input.specs.declared.auth_fault.AuthFault.TheVariants as auths
@@ -17,6 +17,7 @@ use Rattle.queries.specs.declared.clients.WhoAnswer.{WhoAnswer}
 use Rattle.queries.specs.Attempts.{IsAttempt, wanted_by}
 use Rattle.queries.specs.Clients.{AnswersWho}
 use Rattle.cli_queries.specs.FileSystems.{AreNamedIn}
+use Rattle.cli_queries.specs.Logging.{status_of}
 use Rattle.cli_queries.specs.WhoArgs.{AnswersWhoArgs, ReportsWho, StopsWhoArgs}
 use Rattle.cli_queries.proofs.FileSystems.{none_given}
 use Rattle.cli_queries.proofs.Unwritten.{unchanged}
@@ -52,7 +53,7 @@ module _ (who_args : WhoArgs) (input left : Option (List ℕ)) (auth : List ℕ)
 
     -- what is told of it was written
     pub told : (old new : Option (List ℕ)) (fs : List ℕ) (answer : WhoAnswer) (status : ℕ) (Fine : Type 0) (result : Result ℕ AnswerFault) → length auth ≤ longest_script → fs_among names attempt.fs ≡ Some fs
-        → AnswersWho who_args.telling (wanted_by attempt fs) attempt.attr who_args.mds list answer → status ≡ (if answer.judges_all then 0 else 3)
+        → AnswersWho who_args.telling (wanted_by attempt fs) attempt.attr who_args.mds list answer → status ≡ status_of answer.judges_all
         → IfOk result (λ said. said ≡ status) → OnOk result (Fine × Appends old new answer.lines.items) → IfOk result (λ said. AnswersWhoArgs who_args input said old new)
     told old new fs answer status Fine (Err fault) short asked lines is same written = tt
     told old new fs answer status Fine (Ok said) short asked lines is same written = record {

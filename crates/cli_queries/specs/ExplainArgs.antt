@@ -5,12 +5,12 @@ use Rattle.std.specs.Io.KnownBytes.{Appends, Keeps}
 use Rattle.capgrant.specs.Verdict.{is_allowed}
 use Rattle.release_rules.specs.declared.grant.Grant.{Grant}
 use Rattle.release_rules.specs.declared.release.Release.{Release}
+use Rattle.release_rules.specs.Verdicts.{is_allowed as is_allowed_by}
 use Rattle.queries.specs.declared.mds.MdsAnswer.{MdsAnswer}
 use Rattle.queries.specs.declared.question.Asking.{Asking}
 use Rattle.queries.specs.declared.question.Question.{Question}
 use Rattle.queries.specs.declared.question.Values.{Values}
 use Rattle.queries.specs.Mds.{MdsReads, answer_by, lines_by, object_by}
-use Rattle.queries.specs.Mds.{is_allowed as is_allowed_by}
 use Rattle.queries.specs.Question.{Asks, AsksFor, answer_text, verdict_on}
 use Rattle.queries.specs.Remarks.{remarked_answer, remarked_object}
 use Rattle.texts.specs.declared.fault.ScriptFault.TheVariants as stops

@@ -14,7 +14,7 @@ use Rattle.cli_queries.specs.declared.fault.AnswerFault.TheVariants.{NoMemory, Q
 abbrev pub longest_log : ℕ
 longest_log = 1152921504606846976
 
--- the status where each check of a log was judged, or one was not
+-- the status where each of what is told was judged, or something was not
 abbrev pub status_of : Bool → ℕ
 status_of judged = if judged then 0 else 3
 

@@ -1,5 +1,5 @@
 -- What `who` writes, and why it stops before that.
-use Rattle.std.specs.Prelude.{◌≡◌, ◌⊎◌, ◌≤◌, ℕ, Bool, List, length, Option, Some, None, IfSome, IsTrue, Ok, if◌then◌else◌}
+use Rattle.std.specs.Prelude.{◌≡◌, ◌⊎◌, ◌≤◌, ℕ, Bool, List, length, Option, Some, None, IfSome, IsTrue, Ok}
 use Rattle.std.specs.Io.KnownBytes.{Appends, Keeps}
 use Rattle.texts.specs.ScriptLines.{longest_script}
 use Rattle.ceph_input.specs.declared.auth_fault.AuthFault.{AuthFault}
@@ -16,10 +16,11 @@ use Rattle.cli_queries.specs.declared.who_args.WhoArgs.{WhoArgs}
 use Rattle.cli_queries.specs.Fault.{Tells, auth_fault_of}
 use Rattle.cli_queries.specs.ExplainArgs.{IsUnreadInput}
 use Rattle.cli_queries.specs.FileSystems.{AreNamedIn}
+use Rattle.cli_queries.specs.Logging.{status_of}
 
--- this answer was written; the status is 3 where not all could be judged, and 0 else
+-- this answer was written; the status says whether all could be judged
 abbrev pub WritesWho : WhoAnswer → ℕ → Option (List ℕ) → Option (List ℕ) → Type 0
-WritesWho answer status old new = (status ≡ (if answer.judges_all then 0 else 3)) × Appends old new answer.lines.items
+WritesWho answer status old new = (status ≡ status_of answer.judges_all) × Appends old new answer.lines.items
 
 -- what is told of the auth list that a text is was written, by what is attempted, on the file system that is given or that its grants name
 pub record ReportsWho (who_args : WhoArgs) (attempt : Attempt) (auth : List ℕ) (status : ℕ) (old new : Option (List ℕ)) : Type 0 where

@@ -5,7 +5,7 @@ use crate::caret::point_at;
 use crate::command_line::Invocation;
 use crate::explain_args::Form;
 use crate::fault::AnswerFault;
-use crate::file_systems::{named_by, names_line};
+use crate::file_systems::{given_value, named_by, names_line};
 use crate::status::{FAILED, report};
 use capspec::SpecFaultKind;
 use ceph_input::{AuthFault, ClusterFault, KeyringFault, TreeFault};
@@ -89,19 +89,13 @@ fn asked_value(values: &Values, option: Opt) -> &[u8] {
         Opt::Fs => &values.fs,
         Opt::Uid => &values.uid,
         Opt::Gid => &values.gid,
-        Opt::Groups => match &values.groups {
-            Some(groups) => groups,
-            None => return b"",
-        },
+        Opt::Groups => return value_or_none(&values.groups),
         Opt::Path => &values.path,
         Opt::Owner => &values.owner,
         Opt::Group => &values.group,
         Opt::Mode => &values.mode,
         Opt::Access => &values.access,
-        Opt::Addr => match &values.addr {
-            Some(addr) => addr,
-            None => return b"",
-        },
+        Opt::Addr => return value_or_none(&values.addr),
     };
     value.as_slice()
 }
@@ -121,10 +115,7 @@ fn attempted_value(values: &AttemptValues, option: Opt) -> &[u8] {
 
 // A value that may be left out.
 fn value_or_none(value: &Option<Vec<u8>>) -> &[u8] {
-    match value {
-        Some(value) => value.as_slice(),
-        None => b"",
-    }
+    given_value(value).unwrap_or(b"")
 }
 
 // What the option takes.

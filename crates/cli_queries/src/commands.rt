@@ -125,7 +125,11 @@ fn write_failed<W: Write>(
             let object = asking.mds_object(alloc, answer)?;
             write_text(object.as_slice(), DONE, writer)
         }
-        Form::Status => Ok(if answer.is_allowed() { DONE } else { DENIED }),
+        Form::Status => Ok(if answer.verdict.is_allowed() {
+            DONE
+        } else {
+            DENIED
+        }),
     }
 }
 

@@ -66,8 +66,8 @@ fn given_in(invocation: &Invocation) -> Option<&[u8]>
     }
 }
 
-// The bytes of a value that may be left out.
-fn given_value(value: &Option<Vec<u8>>) -> Option<&[u8]>
+/// The bytes of a value that may be left out.
+pub(crate) fn given_value(value: &Option<Vec<u8>>) -> Option<&[u8]>
     ensures { option_map (λ bytes. bytes.now) result ≡ option_map (λ bytes. bytes.items) value.now }
 {
     match value {

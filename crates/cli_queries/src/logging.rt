@@ -3,11 +3,11 @@ ghost use Rattle.std.specs.Prelude.{◌≡◌, ◌⊎◌, ◌+◌, ◌<◌, ◌^
 ghost use Rattle.capspec.specs.Names.{IsFsName};
 ghost use Rattle.queries.specs.LogPieces.{teller_of};
 ghost use Rattle.texts.specs.Watched.{has_ended, has_failed, inner_of};
-ghost use Rattle.cli_queries.specs.Logging.{AnswersLog, IsUnnamed, StopsLog, StopsTelling, WritesEnd, WritesPiece, status_of};
+ghost use Rattle.cli_queries.specs.Logging.{AnswersLog, IsUnnamed, StopsLog, StopsTelling, WritesEnd, WritesPiece};
 
 use crate::commands::write_text;
 use crate::fault::AnswerFault;
-use crate::status::{DONE, FOUND};
+use crate::status::{DONE, FOUND, judged_status};
 use capspec::FsName;
 use queries::{LogTeller, Opt, QuestionFault};
 use std::alloc::Global;
@@ -109,14 +109,6 @@ fn tell_end<W: Write>(
 {
     let mut reported = Vec::new(alloc);
     let is_judged = teller.finish(&mut reported, fs)?;
-    let status = status_of(is_judged);
+    let status = judged_status(is_judged);
     write_text(reported.as_slice(), status, writer)
-}
-
-// The status where each check of a log was judged, or one was not.
-fn status_of(is_judged: bool) -> u8
-    ensures judged { result ≡ status_of is_judged }
-    ensures either { (result ≡ DONE) ⊎ (result ≡ FOUND) }
-{
-    if is_judged { DONE } else { FOUND }
 }

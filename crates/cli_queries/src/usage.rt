@@ -448,7 +448,7 @@ const WHO_WORDS: [Word; 10] = [
     Word {
         name: Name::Own(MORE),
         value: "",
-        help: "Prints further lines, for where the MDS of Ceph 16 decides otherwise of a client",
+        help: "Prints further lines, for where the MDS of Ceph 16, 18 or 20 decides otherwise of a client",
         kind: Kind::Flag,
         needs: None,
         bars: &[],

@@ -1,5 +1,5 @@
 //! The command that tells which clients of a cluster may make an access.
-ghost use Rattle.std.specs.Prelude.{◌≡◌, ◌⊎◌, OnOk, IfOk, IfErr, IfSome, IsFalse, if◌then◌else◌};
+ghost use Rattle.std.specs.Prelude.{◌≡◌, ◌⊎◌, OnOk, IfOk, IfErr, IfSome, IsFalse};
 ghost use Rattle.texts.specs.Watched.{has_ended, has_failed, inner_of};
 ghost use Rattle.cli_queries.specs.WhoArgs.{AnswersWhoArgs, StopsWhoArgs};
 ghost use Rattle.cli_queries.specs.FileSystems.{AreNamedIn};
@@ -7,10 +7,10 @@ ghost use Rattle.cli_queries.specs.FileSystems.{AreNamedIn};
 use crate::commands::write_text;
 use crate::fault::AnswerFault;
 use crate::file_systems::fs_asked;
-use crate::status::{DONE, FOUND};
+use crate::status::{DONE, FOUND, judged_status};
 use capspec::FsName;
 use ceph_input::read_auth;
-use queries::{Attempt, AttemptValues, Telling, WhoAnswer, who_lines};
+use queries::{Attempt, AttemptValues, Telling, who_lines};
 use release_rules::Release;
 use std::alloc::Global;
 use std::io::{Read, Write};
@@ -69,13 +69,6 @@ pub fn who<R: Read, W: Write>(
     who_args.named = list.fs_names(alloc)?;
     let fs = fs_asked(who_args.named.as_slice(), &attempt.fs)?;
     let answer = who_lines(alloc, &list, &fs, &attempt, who_args.mds, who_args.telling)?;
-    let status = status_of(&answer);
+    let status = judged_status(answer.judges_all);
     write_text(answer.lines.as_slice(), status, writer)
-}
-
-// The status that says whether all of them could be judged.
-fn status_of(answer: &WhoAnswer) -> u8
-    ensures { result ≡ (if answer.now.judges_all then 0 else 3) }
-{
-    if answer.judges_all { DONE } else { FOUND }
 }

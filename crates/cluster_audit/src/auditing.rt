@@ -20,8 +20,8 @@ use texts::Shape;
 
 /// What the clients of a cluster hold of the inodes of this file system, by the tree that a metadata server has in memory, and nobody
 /// behind their keys is permitted, and what two of them hold that no two may hold together; behind that which clients call themselves
-/// otherwise than their keys are named, which inodes were unlinked, and what could not be judged; each line once, in the order of the lines' bytes, which is first that of paths, or those that are alike counted; and a line that sums it
-/// up.
+/// otherwise than their keys are named, and which inodes were unlinked; and behind that what could not be judged. Each line stands once,
+/// in the order of the lines' bytes, which is first that of paths, or those that are alike are counted. A line sums it up.
 pub fn audit_report(
     alloc: Global,
     manner: Manner,

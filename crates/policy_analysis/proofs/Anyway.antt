@@ -49,7 +49,7 @@ own_bits a class is = ap (λ (k : Class). is_some_and (λ bit. not (has_bit 0o77
     each (Chgrp n) = refl
 
 -- what a grant allows of some inode it allows of one of its user's
-pub owned_too : (w : Wanted) (attr : Attr) (g : Grant) (c : Caller) → allows (asked w attr c) g ≡ true → allows (asked w (own_attr g) c) g ≡ true
+owned_too : (w : Wanted) (attr : Attr) (g : Grant) (c : Caller) → allows (asked w attr c) g ≡ true → allows (asked w (own_attr g) c) g ≡ true
 unfolding fails_uid fails_not_owner fails_not_own_group fails_mode_bits
 owned_too w attr g c e =
     let p : Passes (asked w attr c) g = passes_all (asked w attr c) g e in
@@ -63,7 +63,7 @@ owned_too w attr g c e =
     own_class : is_some g.uid ≡ true → (c.uid == user_of g) ≡ true → class_of (asked w (own_attr g) c) g ≡ Owner
     own_class some owns = ap (λ (b : Bool). if b then Owner else (if contains (listed_gids c g) 0 then Group else Other)) owns
 
-pub never : (w : Wanted) (g : Grant) → allows_one false w (own_attr g) g ≡ false → NeverAllows w g
+pub never : (w : Wanted) (g : Grant) → allows_one w (own_attr g) g ≡ false → NeverAllows w g
 never w g none attr c = by_test (allows (asked w attr c) g) refl
   where
     by_test : (b : Bool) → allows (asked w attr c) g ≡ b → b ≡ false
@@ -112,7 +112,7 @@ is_free (Some u) e = absurd (false≢true e)
 
 pub anyway : (w : Wanted) (g : Grant) → allows_anyway w g ≡ true → AllowsAnyway w g
 anyway w g e attr =
-    let parts = and_parts (is_none g.uid) (allows_one false w (own_attr g) g) e in
+    let parts = and_parts (is_none g.uid) (allows_one w (own_attr g) g) e in
     let some = to_some w (own_attr g) g parts.1 in
     (some.0, some.1, looks_at_none w (own_attr g) attr some.0 g (is_free g.uid parts.0) some.2)
 
@@ -121,7 +121,7 @@ pub none_of_bare : (w : Wanted) (g : Grant) (owner : ℕ) → g.uid ≢ Some own
 none_of_bare w g owner apart none = by_uid g.uid refl
   where
     by_uid : (uid : Option ℕ) → g.uid ≡ uid → AllowsNone w (bare owner) g
-    by_uid None is = never w g (ap (λ (b : Bool). b && allows_one false w (own_attr g) g) (sym (ap is_none is)) ∙ none) (bare owner)
+    by_uid None is = never w g (ap (λ (b : Bool). b && allows_one w (own_attr g) g) (sym (ap is_none is)) ∙ none) (bare owner)
     by_uid (Some u) is = none_bare w g u owner is (λ same. apart (is ∙ ap Some same))
 
 pub not_anyway : (w : Wanted) (g : Grant) → allows_anyway w g ≡ false → NotAnyway w g

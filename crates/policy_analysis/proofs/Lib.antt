@@ -21,16 +21,13 @@ pub mod Words
 pub mod Scanned
 pub mod Grants
 pub mod InOrder
-pub mod DifferenceReasons
 pub mod Unnamed
 pub mod StandsIn
-pub mod There
 pub mod Askers
 pub mod Anyway
 pub mod Firsts
 pub mod Reasons
 pub mod Answers
-pub mod Reported
 pub mod Odd
 pub mod Alike
 pub mod Listed

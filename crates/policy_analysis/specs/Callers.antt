@@ -7,7 +7,6 @@ use Rattle.capgrant.specs.declared.access.Access.{Access}
 use Rattle.capgrant.specs.declared.access.Attr.{Attr}
 use Rattle.capgrant.specs.Question.{Question, contains, question}
 use Rattle.capgrant.specs.Verdict.{allows}
-use Rattle.policy_analysis.specs.Differences.{allows_there}
 
 -- ---- callers
 
@@ -62,15 +61,10 @@ user_of g = unwrap_or g.uid 1
 abbrev pub asker : Attr → Grant → List ℕ → Caller
 asker attr g groups = record { uid = user_of g; gid = beside attr.gid; groups = groups }
 
--- the grant allows what is asked by the rules of the MDS of Ceph 16, or else by those here
-abbrev pub allows_by : Bool → Question → Grant → Bool
-allows_by true q g = allows_there q g
-allows_by false q g = allows q g
-
--- by these rules the grant allows it to its user in these further groups
-abbrev pub allows_in : Bool → Wanted → Attr → Grant → List ℕ → Bool
-allows_in there w attr g groups = allows_by there (asked w attr (asker attr g groups)) g
+-- the grant allows it to its user in these further groups
+abbrev pub allows_in : Wanted → Attr → Grant → List ℕ → Bool
+allows_in w attr g groups = allows (asked w attr (asker attr g groups)) g
 
 -- the same in one of the groups that it lists, alone, or in none where it lists none
-abbrev pub allows_one : Bool → Wanted → Attr → Grant → Bool
-allows_one there w attr g = if length g.gids == 0 then allows_in there w attr g [] else list_any (λ gid. allows_in there w attr g (gid ∷ [])) g.gids
+abbrev pub allows_one : Wanted → Attr → Grant → Bool
+allows_one w attr g = if length g.gids == 0 then allows_in w attr g [] else list_any (λ gid. allows_in w attr g (gid ∷ [])) g.gids

@@ -9,11 +9,10 @@ pub mod Findings
 pub mod Ceph16Syntax
 pub mod Scanning
 pub mod Left
-pub mod Differences
 pub mod Callers
 pub mod Standing
 pub mod MdsStanding
-pub mod Otherwise
+pub mod BesideStanding
 pub mod Releases
 pub mod Oddities
 pub mod Refusals

@@ -1,12 +1,10 @@
 -- What the MDS of a release lets somebody behind a client's key do. A key names no user: a caller comes with each request.
-use Rattle.std.specs.Prelude.{ℕ, ◌+◌, Bool, true, false, not, ◌&&◌, ◌==◌, Option, Some, None, is_none, is_some, unwrap_or, List, [], ◌∷◌, length}
-use Rattle.std.specs.Prelude.{position, filter_map, take, slice_get, if◌then◌else◌}
+use Rattle.std.specs.Prelude.{ℕ, ◌+◌, Bool, false, not, ◌&&◌, ◌==◌, Option, Some, None, is_none, is_some, unwrap_or, List, [], ◌∷◌, length}
+use Rattle.std.specs.Prelude.{position, filter_map, slice_get, if◌then◌else◌}
 use Rattle.std.specs.Option.{option_or}
 use Rattle.capbits.specs.declared.caller.Caller.{Caller}
 use Rattle.capgrant.specs.declared.access.Access.{Access}
-use Rattle.capgrant.specs.declared.access.Access.TheVariants.{Read, SetVxattr, Snapshot}
 use Rattle.capgrant.specs.declared.access.Attr.{Attr}
-use Rattle.capgrant.specs.Access.{new_group}
 use Rattle.capgrant.specs.Question.{contains}
 use Rattle.release_rules.specs.declared.grant.Grant.{Grant}
 use Rattle.release_rules.specs.declared.release.Release.{Release}
@@ -15,12 +13,13 @@ use Rattle.release_rules.specs.declared.rule.Rule.{Rule}
 use Rattle.release_rules.specs.declared.verdict.Verdict.{Verdict}
 use Rattle.release_rules.specs.declared.verdict.Verdict.TheVariants.{Allowed, CannotMount, Denied, DependsOnAddress}
 use Rattle.release_rules.specs.Asked.{asked_for}
-use Rattle.release_rules.specs.Clients.{client_refuses}
+use Rattle.release_rules.specs.Clients.{changes_attributes, client_refuses}
 use Rattle.release_rules.specs.Failing.{first_failing, has_user, user_of}
 use Rattle.release_rules.specs.Question.{Question}
 use Rattle.release_rules.specs.Releases.{switches_of}
 use Rattle.release_rules.specs.Verdicts.{is_open, may_allow, may_mount}
 use Rattle.policy_analysis.specs.declared.mds_standing.MdsStanding.{MdsStanding}
+use Rattle.policy_analysis.specs.Asking.{caller_of, with_group}
 use Rattle.policy_analysis.specs.Callers.{beside}
 
 -- an access to the inode with these names from the root down, on this file system of a cluster of this release; its owner, group and mode, where
@@ -45,52 +44,45 @@ user_for w g = unwrap_or (user_of (switches w) g) 1
 abbrev pub attr_asked : MdsWanted → Grant → Attr
 attr_asked w g = unwrap_or w.known (record { uid = user_for w g; gid = 0; mode = 0o777 })
 
--- that user in these further groups; its first group is neither root's nor the inode's
-abbrev pub caller_for : MdsWanted → Grant → List ℕ → Caller
-caller_for w g groups = record { uid = user_for w g; gid = beside (attr_asked w g).gid; groups = groups }
+-- a caller with no further group, in this one
+abbrev pub in_group : Caller → Option ℕ → Caller
+in_group caller None = caller
+in_group caller (Some gid) = with_group caller gid
+
+-- that user in this further group; its first group is neither root's nor the inode's
+abbrev pub caller_for : MdsWanted → Grant → Option ℕ → Caller
+caller_for w g group = in_group (caller_of (user_for w g) (beside (attr_asked w g).gid)) group
 
 -- what an MDS is asked by this caller of an inode with this owner, group and mode
 abbrev pub asked_by : MdsWanted → Attr → Caller → Question
 asked_by w attr caller = record { fs = w.fs; caller = caller; path = w.path; attr = attr; asked = asked_for w.access; address = None }
 
--- the grant lets in its user in these groups, if the client is in its network
-abbrev pub lets_in_with : MdsWanted → Grant → List ℕ → Bool
-lets_in_with w g groups = may_allow (switches w) (asked_by w (attr_asked w g) (caller_for w g groups)) g
+-- the grant lets in its user in this group, if the client is in its network
+abbrev pub lets_in_with : MdsWanted → Grant → Option ℕ → Bool
+lets_in_with w g group = may_allow (switches w) (asked_by w (attr_asked w g) (caller_for w g group)) g
 
 -- the caller, if the grant lets it in
-abbrev pub let_in_with : MdsWanted → Grant → List ℕ → Option Caller
-let_in_with w g groups = if lets_in_with w g groups then Some (caller_for w g groups) else None
+abbrev pub let_in_with : MdsWanted → Grant → Option ℕ → Option Caller
+let_in_with w g group = if lets_in_with w g group then Some (caller_for w g group) else None
 
 -- of that user in one of these groups, alone, the first whom the grant lets in
 abbrev pub let_in_of : MdsWanted → Grant → List ℕ → Option Caller
 let_in_of w g [] = None
-let_in_of w g (gid ∷ gids) = if lets_in_with w g (gid ∷ []) then Some (caller_for w g (gid ∷ [])) else let_in_of w g gids
+let_in_of w g (gid ∷ gids) = if lets_in_with w g (Some gid) then Some (caller_for w g (Some gid)) else let_in_of w g gids
 
 -- whom the grant lets in: its user, in one of the groups that it lists, or in none where it lists none
 abbrev pub let_in : MdsWanted → Grant → Option Caller
-let_in w g = if length g.gids == 0 then let_in_with w g [] else let_in_of w g g.gids
+let_in w g = if length g.gids == 0 then let_in_with w g None else let_in_of w g g.gids
 
 -- ---- what is said
 
--- an attribute of a directory is set, whatever its owner, group and mode are
-abbrev pub sets_vxattr : Access → Bool
-sets_vxattr SetVxattr = true
-sets_vxattr access = false
-
--- owner, group and mode decide by the grant, and are not known
+-- owner, group and mode decide by the grant, and are not known; to set an attribute of a directory they play no part
 abbrev pub is_by_inode : MdsWanted → Grant → Bool
-is_by_inode w g = is_none w.known && (has_user (switches w) g && not (sets_vxattr w.access))
-
--- a client looks at its grants before it asks for this
-abbrev pub changes_attributes : Access → Bool
-changes_attributes Read = false
-changes_attributes SetVxattr = false
-changes_attributes Snapshot = false
-changes_attributes access = true
+is_by_inode w g = is_none w.known && (has_user (switches w) g && not (asked_for w.access).set_vxattr)
 
 -- it is not known whether the client is in the network of the grant
 abbrev pub is_by_address : MdsWanted → Grant → Bool
-is_by_address w g = is_open (asked_by w (attr_asked w g) (caller_for w g [])) g
+is_by_address w g = is_open (asked_by w (attr_asked w g) (caller_for w g None)) g
 
 -- the grant lets somebody in, if the client is in its network, and for some inode
 abbrev pub lets_in : MdsWanted → Grant → Bool
@@ -101,13 +93,13 @@ abbrev pub is_sure : MdsWanted → Grant → Bool
 is_sure w g = lets_in w g && (not (is_by_inode w g) && not (is_by_address w g))
 
 -- of the groups that a grant lists the one that the inode is to be given to, or else the first
-abbrev pub group_for : Option ℕ → List ℕ → List ℕ
-group_for None gids = take 1 gids
-group_for (Some gid) gids = if contains gids gid then gid ∷ [] else take 1 gids
+abbrev pub group_for : Option ℕ → List ℕ → Option ℕ
+group_for None gids = slice_get gids 0
+group_for (Some gid) gids = if contains gids gid then Some gid else slice_get gids 0
 
 -- the first rule by which a grant denies it to its user in that group
 abbrev pub reason : MdsWanted → Grant → Option Rule
-reason w g = first_failing (switches w) (asked_by w (attr_asked w g) (caller_for w g (group_for (new_group w.access) g.gids))) g
+reason w g = first_failing (switches w) (asked_by w (attr_asked w g) (caller_for w g (group_for (asked_for w.access).new_group g.gids))) g
 
 -- the rules by which each grant denies it so
 abbrev pub reasons : MdsWanted → List Grant → List Rule

@@ -1,5 +1,5 @@
 -- What the MDS of a release allows by a grant, and its clients refuse as another comes last.
-use Rattle.std.specs.Prelude.{◌≡◌, ℕ, ◌<◌, nat_lt, Bool, true, false, ◌&&◌, ◌==◌, Option, Some, None, unwrap_or, List, [], ◌∷◌, length, slice_index_or, codes, All, MatchOption, if◌then◌else◌}
+use Rattle.std.specs.Prelude.{◌≡◌, ℕ, ◌<◌, nat_lt, ◌&&◌, ◌==◌, Option, Some, None, unwrap_or, List, [], ◌∷◌, length, slice_index_or, codes, All, MatchOption, if◌then◌else◌}
 use Rattle.capbits.specs.declared.caller.Caller.{Caller}
 use Rattle.capspec.specs.Names.{IsFsName}
 use Rattle.capspec.specs.Paths.{names_of}
@@ -9,15 +9,13 @@ use Rattle.release_rules.specs.declared.grant.Grant.{Grant}
 use Rattle.release_rules.specs.declared.release.Release.{Release}
 use Rattle.release_rules.specs.declared.release.Release.TheVariants.{Reef, Tentacle}
 use Rattle.release_rules.specs.declared.release.Switches.{Switches}
-use Rattle.release_rules.specs.declared.verdict.Verdict.{Verdict}
-use Rattle.release_rules.specs.declared.verdict.Verdict.TheVariants.{Allowed}
 use Rattle.release_rules.specs.Asked.{asked_for}
 use Rattle.release_rules.specs.Clients.{client_refuses}
 use Rattle.release_rules.specs.Failing.{user_of}
 use Rattle.release_rules.specs.Flags.{has_w}
 use Rattle.release_rules.specs.Question.{Question}
 use Rattle.release_rules.specs.Releases.{switches_of}
-use Rattle.release_rules.specs.Verdicts.{verdict_of}
+use Rattle.release_rules.specs.Verdicts.{is_allowed, verdict_of}
 use Rattle.policy_analysis.specs.declared.refusal.Refusal.{Refusal}
 use Rattle.policy_analysis.specs.declared.releases.Releases.{Releases}
 use Rattle.policy_analysis.specs.declared.releases.Releases.TheVariants.{One, Today}
@@ -26,10 +24,6 @@ use Rattle.policy_analysis.specs.Releases.{switches_for}
 use Rattle.policy_analysis.specs.Squashing.{longer, owned_by, with_first_of}
 
 -- ---- what clients refuse
-
-abbrev pub is_allowed : Verdict → Bool
-is_allowed (Allowed number) = true
-is_allowed verdict = false
 
 -- the number of a grant, if it has 32 bits
 abbrev pub small : Option ℕ → Option ℕ

@@ -1,5 +1,5 @@
 -- What the grants of a client say to what somebody behind its key wants to do.
-use Rattle.std.specs.Prelude.{◌≡◌, ℕ, ◌+◌, Bool, false, ◌&&◌, Option, Some, None, is_none, List, ◌∷◌, ◌++◌, length, filter_map, All}
+use Rattle.std.specs.Prelude.{◌≡◌, ℕ, ◌+◌, Bool, ◌&&◌, Option, Some, None, is_none, List, ◌∷◌, ◌++◌, length, filter_map, All}
 use Rattle.capspec.specs.declared.grant.Grant.{Grant}
 use Rattle.capgrant.specs.declared.access.Attr.{Attr}
 use Rattle.capgrant.specs.declared.rule.Rule.{Rule}
@@ -80,8 +80,8 @@ Answers w None grants standing = AnswersOfAny w grants standing
 
 -- the grant allows it to one of those who are asked
 abbrev pub allows_here : Wanted → Option Attr → Grant → Bool
-allows_here w attr g = allows_one false w (attr_for attr g) g
+allows_here w attr g = allows_one w (attr_for attr g) g
 
 -- the same of a grant that looks at no owner, group or mode
 abbrev pub allows_anyway : Wanted → Grant → Bool
-allows_anyway w g = is_none g.uid && allows_one false w (own_attr g) g
+allows_anyway w g = is_none g.uid && allows_one w (own_attr g) g

@@ -1,11 +1,10 @@
 //! What is wanted, and the grants that allow it.
 
-ghost use Rattle.std.specs.Prelude.{◌≡◌, ◌≤◌, true, false, length, is_some, All, IfSome, MatchOption};
-ghost use Rattle.policy_analysis.specs.Callers.{Names, allows_by, allows_in, allows_one, asked, asker};
+ghost use Rattle.std.specs.Prelude.{◌≡◌, ◌≤◌, true, false, length, All, MatchOption};
+ghost use Rattle.policy_analysis.specs.Callers.{allows_in, allows_one, asked};
 ghost use Rattle.policy_analysis.specs.Standing.{IsFirst, allows_anyway, allows_here};
 
 use crate::callers::{asker, attr_for, listed, own_attr};
-use crate::differences::allows_there;
 use capbits::Caller;
 use capgrant::{Access, Attr, Question};
 use capspec::{FsName, Grant, Grants};
@@ -74,56 +73,31 @@ impl Wanted<'_> {
 
     // Whether the grant allows it to one of those who are asked.
     fn allows_one(&self, grant: &Grant, attr: &Attr) -> bool
-        ensures { result ≡ allows_one false self.now attr.now grant.now }
-    {
-        self.asker_by(false, grant, attr).is_some()
-    }
-
-    /// Of those who are asked the first whom the grant allows it, by the rules of the MDS of Ceph 16 or else by those here.
-    pub(crate) fn asker_by(&self, there: bool, grant: &Grant, attr: &Attr) -> Option<Caller>
-        ensures one { is_some result ≡ allows_one there self.now attr.now grant.now }
-        ensures who { IfSome result (λ caller. Names grant.now caller × (allows_by there (asked self.now attr.now caller) grant.now ≡ true)) }
+        ensures { result ≡ allows_one self.now attr.now grant.now }
     {
         let gids = listed(grant);
         if gids.is_empty() {
-            return self.asker_in(there, grant, attr, &[]);
+            return self.allows_in(grant, attr, &[]);
         }
         for gid in gids {
-            if let Some(caller) = self.asker_in(there, grant, attr, &[*gid]) {
-                return Some(caller);
+            if self.allows_in(grant, attr, &[*gid]) {
+                return true;
             }
         }
-        None
+        false
     }
 
-    // The grant's user in these groups, if it allows it to him.
-    fn asker_in(&self, there: bool, grant: &Grant, attr: &Attr, groups: &[u32]) -> Option<Caller>
+    // Whether the grant allows it to its user in these groups.
+    fn allows_in(&self, grant: &Grant, attr: &Attr, groups: &[u32]) -> bool
         requires { length groups.now ≤ 16 }
-        ensures one { is_some result ≡ allows_in there self.now attr.now grant.now groups.now }
-        ensures who { IfSome result (λ caller. caller ≡ asker attr.now grant.now groups.now) }
+        ensures { result ≡ allows_in self.now attr.now grant.now groups.now }
     {
         let caller = asker(attr, grant, groups);
-        if self.allows_to(there, grant, attr, &caller) {
-            Some(caller)
-        } else {
-            None
-        }
+        self.asked(attr, &caller).allows(grant)
     }
 
-    // Whether the grant allows it to this caller.
-    fn allows_to(&self, there: bool, grant: &Grant, attr: &Attr, caller: &Caller) -> bool
-        ensures { result ≡ allows_by there (asked self.now attr.now caller.now) grant.now }
-    {
-        let question = self.asked(attr, caller);
-        if there {
-            allows_there(&question, grant)
-        } else {
-            question.allows(grant)
-        }
-    }
-
-    /// What is asked of each grant for this caller.
-    pub(crate) fn asked<'q>(&'q self, attr: &'q Attr, caller: &'q Caller) -> Question<'q>
+    // What is asked of each grant for this caller.
+    fn asked<'q>(&'q self, attr: &'q Attr, caller: &'q Caller) -> Question<'q>
         ensures { result ≡ asked self.now attr.now caller.now }
     {
         Question {

@@ -1,27 +1,26 @@
 //! What grants say to more than one question: what one list of grants allows and another denies, with a question that shows it;
-//! what is to be looked at in a list, also by the rules of releases of Ceph; what some caller behind a client's key may do; and where the MDS
-//! of Ceph 16 is known to decide otherwise, or reads the grants of a text otherwise than they stand there.
+//! what is to be looked at in a list, also by the rules of releases of Ceph; what some caller behind a client's key may do, here and by
+//! the MDS of a release; and which grants of a text Ceph 16 reads otherwise than they stand there.
 //!
 //! Public source: "CephFS Client Capabilities" in the Ceph documentation; what Ceph 16 takes of the grammar was asked of its reader.
 #![tactic(auto)]
 
 mod asking;
+mod beside_standing;
 mod bytes;
 mod callers;
 mod ceph;
 mod client_questions;
 mod compare;
-mod difference_laws;
-mod differences;
 mod dots;
 mod finding;
 mod free;
 mod items;
 mod left;
+mod left_laws;
 mod mds_standing;
 mod oddity;
 mod oddity_laws;
-mod otherwise;
 mod redundant;
 mod refusal;
 mod releases;
@@ -35,7 +34,6 @@ mod witness;
 
 pub use client_questions::Wanted;
 pub use compare::{gained, lost};
-pub use differences::{Difference, Otherwise, answered_otherwise};
 pub use finding::{Finding, lint};
 pub use left::left_to_client;
 pub use mds_standing::{MdsStanding, MdsWanted};

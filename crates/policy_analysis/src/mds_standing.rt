@@ -1,20 +1,18 @@
 //! What the MDS of a release lets somebody behind a client's key do.
 
-ghost use Rattle.std.specs.Prelude.{◌≡◌, ◌≤◌, length, position, take, IfOk};
-ghost use Rattle.release_rules.specs.Failing.{first_failing};
-ghost use Rattle.policy_analysis.specs.MdsStanding.{asked_by, attr_asked, by_grant, caller_for, changes_attributes, denied, is_by_address, is_by_inode};
-ghost use Rattle.policy_analysis.specs.MdsStanding.{is_sure, let_in, let_in_of, let_in_with, lets_in, reason, reasons, refused_to};
+ghost use Rattle.std.specs.Prelude.{◌≡◌, position, IfOk};
+ghost use Rattle.policy_analysis.specs.MdsStanding.{asked_by, attr_asked, by_grant, caller_for, denied, group_for, is_by_address};
+ghost use Rattle.policy_analysis.specs.MdsStanding.{is_by_inode, is_sure, let_in, let_in_with, lets_in, reason, reasons, refused_to};
 ghost use Rattle.policy_analysis.specs.MdsStanding.{nobody, standing_by, switches, user_for};
 
-use crate::asking::mode_of;
+use crate::asking::{caller, mode_of, with_group};
 use crate::callers::beside;
-use arrayvec::ArrayVec;
-use capbits::{Caller, Groups};
+use capbits::Caller;
 use capgrant::{Access, Attr};
 use capspec::{FsName, TreePath};
 use release_rules::{
-    Asked, Grant, Question, Release, Rule, Rules, Switches, Verdict, client_refuses, may_mount,
-    user_of,
+    Asked, Grant, Question, Release, Rule, Rules, Switches, Verdict, changes_attributes,
+    client_refuses, may_mount, user_of,
 };
 use std::alloc::{AllocError, Global};
 use std::marker::Model;
@@ -156,7 +154,7 @@ impl MdsWanted<'_> {
     {
         self.known.is_none()
             && user_of(self.switches(), grant).is_some()
-            && !matches!(self.access, Access::SetVxattr)
+            && !Asked::of_access(self.access).set_vxattr
     }
 
     // Whether it is not known that the client is in the grant's network.
@@ -164,7 +162,7 @@ impl MdsWanted<'_> {
         ensures { result ≡ is_by_address self.now grant.now }
     {
         let attr = self.attr_asked(grant);
-        let caller = self.caller_for(grant, &[]);
+        let caller = self.caller_for(grant, None);
         self.asked_by(&attr, &caller).is_open(grant)
     }
 
@@ -187,23 +185,22 @@ impl MdsWanted<'_> {
     {
         let gids = grant.gids.as_slice();
         if gids.is_empty() {
-            return self.let_in_with(grant, &[]);
+            return self.let_in_with(grant, None);
         }
         for gid in gids {
-            if let Some(caller) = self.let_in_with(grant, &[*gid]) {
+            if let Some(caller) = self.let_in_with(grant, Some(*gid)) {
                 return Some(caller);
             }
         }
         None
     }
 
-    // The grant's user in these groups, if the grant lets it in.
-    fn let_in_with(&self, grant: &Grant, groups: &[u32]) -> Option<Caller>
-        requires { length groups.now ≤ 1 }
-        ensures { result ≡ let_in_with self.now grant.now groups.now }
+    // The grant's user in this group, if the grant lets it in.
+    fn let_in_with(&self, grant: &Grant, group: Option<u32>) -> Option<Caller>
+        ensures { result ≡ let_in_with self.now grant.now group }
     {
         let attr = self.attr_asked(grant);
-        let caller = self.caller_for(grant, groups);
+        let caller = self.caller_for(grant, group);
         let is_let_in = self
             .asked_by(&attr, &caller)
             .may_be_allowed_by(self.switches(), grant);
@@ -221,23 +218,13 @@ impl MdsWanted<'_> {
         Ok(rules)
     }
 
+    // Why the grant denies it to its user.
     fn reason(&self, grant: &Grant) -> Option<Rule>
         ensures { result ≡ reason self.now grant.now }
     {
-        let gids = grant.gids.as_slice();
-        match self.access {
-            Access::Chgrp(gid) if gids.contains(&gid) => self.reason_in(grant, &[gid]),
-            _ => self.reason_in(grant, first_of(gids)),
-        }
-    }
-
-    // Why the grant denies it to its user in these groups.
-    fn reason_in(&self, grant: &Grant, groups: &[u32]) -> Option<Rule>
-        requires { length groups.now ≤ 1 }
-        ensures { result ≡ first_failing (switches self.now) (asked_by self.now (attr_asked self.now grant.now) (caller_for self.now grant.now groups.now)) grant.now }
-    {
+        let given = Asked::of_access(self.access).new_group;
         let attr = self.attr_asked(grant);
-        let caller = self.caller_for(grant, groups);
+        let caller = self.caller_for(grant, group_for(given, grant.gids.as_slice()));
         self.asked_by(&attr, &caller)
             .first_failing(self.switches(), grant)
     }
@@ -270,18 +257,14 @@ impl MdsWanted<'_> {
         }
     }
 
-    // The grant's user in these groups.
-    fn caller_for(&self, grant: &Grant, groups: &[u32]) -> Caller
-        requires { length groups.now ≤ 1 }
-        ensures { result ≡ caller_for self.now grant.now groups.now }
+    // The grant's user in this further group.
+    fn caller_for(&self, grant: &Grant, group: Option<u32>) -> Caller
+        ensures { result ≡ caller_for self.now grant.now group }
     {
-        let Ok(gids) = ArrayVec::try_from(groups) else {
-            unreachable!()
-        };
-        Caller {
-            uid: self.user_for(grant),
-            gid: beside(self.attr_asked(grant).gid),
-            groups: Groups::from(gids),
+        let alone = caller(self.user_for(grant), beside(self.attr_asked(grant).gid));
+        match group {
+            Some(gid) => with_group(&alone, gid),
+            None => alone,
         }
     }
 
@@ -293,12 +276,15 @@ impl MdsWanted<'_> {
     }
 }
 
-// The first of these groups, or none.
-fn first_of(gids: &[u32]) -> &[u32]
-    ensures value { result.now ≡ take 1 gids.now }
-    ensures one { length result.now ≤ 1 }
+// Of the groups that a grant lists the one that the inode is to be given to, or else the first.
+fn group_for(given: Option<u32>, gids: &[u32]) -> Option<u32>
+    ensures { result ≡ group_for given gids.now }
 {
-    if gids.is_empty() { gids } else { &gids[..1] }
+    let first = gids.first().copied();
+    let Some(gid) = given else {
+        return first;
+    };
+    if gids.contains(&gid) { given } else { first }
 }
 
 // What is said where nobody may.
@@ -310,11 +296,4 @@ fn nobody(verdict: Verdict) -> MdsStanding
         by_inode: false,
         refused: None,
     }
-}
-
-// Whether a client looks at its grants before it asks for this.
-fn changes_attributes(access: Access) -> bool
-    ensures { result ≡ changes_attributes access }
-{
-    !matches!(access, Access::Read | Access::SetVxattr | Access::Snapshot)
 }

@@ -2,7 +2,7 @@
 
 ghost use Rattle.std.specs.Prelude.{◌≡◌, ◌↔◌, map, IfOk, IfSome, IsSome, MatchOption};
 ghost use Rattle.capspec.specs.Names.{IsFsName};
-ghost use Rattle.policy_analysis.specs.Refusals.{AreRefusals, IsFoundOf, IsRefusal, NoneRefuses, caller_of_two, changing, fs_of_two, is_allowed};
+ghost use Rattle.policy_analysis.specs.Refusals.{AreRefusals, IsFoundOf, IsRefusal, NoneRefuses, caller_of_two, changing, fs_of_two};
 ghost use Rattle.policy_analysis.specs.Refusals.{names_in, refused_by, refused_in, refused_of_one, refused_today, small};
 ghost use Rattle.policy_analysis.specs.Squashing.{longer};
 
@@ -14,7 +14,7 @@ use capbits::Caller;
 use capgrant::{Access, Attr};
 use capspec::{FsName, TreePath};
 use release_rules::{
-    Asked, Grant, Question, Release, Switches, Verdict, client_refuses, mds_verdict, user_of,
+    Asked, Grant, Question, Release, Switches, client_refuses, mds_verdict, user_of,
 };
 use std::alloc::{AllocError, Global};
 use std::slice::from_ref;
@@ -210,17 +210,11 @@ fn refused_in(
 {
     let switches = release.switches();
     let verdict = mds_verdict(alloc, switches, question, from_ref(grant))?;
-    if is_allowed(&verdict) {
+    if verdict.is_allowed() {
         Ok(small(client_refuses(switches, question, grants)))
     } else {
         Ok(None)
     }
-}
-
-fn is_allowed(verdict: &Verdict) -> bool
-    ensures { result ≡ is_allowed verdict.now }
-{
-    matches!(verdict, Verdict::Allowed { .. })
 }
 
 // The number of a grant, if it has 32 bits.

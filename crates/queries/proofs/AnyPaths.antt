@@ -13,7 +13,7 @@ use Rattle.capgrant.specs.Access.{access_word}
 use Rattle.texts.specs.Lines.{HasGrant, HasNumber}
 use Rattle.texts.specs.Remarked.{HasNumbers}
 use Rattle.texts.proofs.Answered.{number_to, one_access, plain_word}
-use Rattle.texts.proofs.Asked.{is_remarked}
+use Rattle.texts.proofs.Asked.{has_grant}
 use Rattle.texts.proofs.Quoted.{bare, first_byte}
 use Rattle.queries.specs.declared.any_path.AnyPath.{AnyPath}
 use Rattle.queries.specs.declared.any_path.AnyPath.TheVariants.{Anywhere, Nowhere, Somewhere}
@@ -42,7 +42,7 @@ pub has_small : (q : Question) → HasNumbers (asked_of q) q.grants → HasSmall
 has_small q p =
     let root : Question = with_path q [] in
     let numbers : HasNumbers (asked_of root) q.grants = record { access = p.access; owner = p.owner; group = p.group; mode = p.mode; few = p.few } in
-    small_by (verdict_on root) (somewhere q 1 q.grants) (is_remarked (asked_of root) q.grants numbers).grant (small_from q 1 q.grants (omega (arith, p.few)))
+    small_by (verdict_on root) (somewhere q 1 q.grants) (has_grant (asked_of root) q.grants numbers.few) (small_from q 1 q.grants (omega (arith, p.few)))
 
 -- ---- step by step
 

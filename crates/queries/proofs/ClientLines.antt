@@ -6,11 +6,9 @@ use Rattle.ceph_input.specs.Auth.{Named}
 use Rattle.policy_analysis.specs.Callers.{Wanted}
 use Rattle.capspec.specs.declared.grant.Grant.{Grant}
 use Rattle.capspec.specs.Grants.{Reads}
-use Rattle.policy_analysis.specs.declared.differences.Otherwise.{Otherwise}
 use Rattle.policy_analysis.specs.declared.standing.Standing.{Standing}
-use Rattle.policy_analysis.specs.Otherwise.{AnswersOtherwise}
 use Rattle.policy_analysis.specs.Standing.{Answers}
-use Rattle.queries.specs.Clients.{AreLines, Says, is_told, meant, standing_in}
+use Rattle.queries.specs.Clients.{AreLines, Says, is_told, meant, others_in, standing_in}
 use Rattle.queries.specs.Clients.AreLines.{another, client, no_more}
 use Rattle.queries.specs.declared.clients.Telling.{Telling}
 
@@ -62,8 +60,8 @@ all_lines say es i judged text end begun =
     (begun true [] (subst (λ (xs : List Named). AreLines say xs true []) (sym (drop_all i es end)) no_more)))
 
 -- grants that could be read
-pub judged_line : (telling : Telling) (w : Wanted) (attr : Option Attr) (name : List ℕ) (caps : Option (List ℕ)) (text : List ℕ) (grants : List Grant) (standing : Standing) (other : Option Otherwise) → Some text ≡ caps → Reads (meant text) grants
-    → Answers w attr grants standing → AnswersOtherwise w attr grants other → Says telling w attr name caps true (standing_in telling name w attr standing other)
-judged_line telling w attr name caps text grants standing other some means answers otherwise =
-    subst (λ (c : Option (List ℕ)). Says telling w attr name c true (standing_in telling name w attr standing other)) some
-    (inl (refl, record { grants = grants; standing = standing; means = means; other = other; answers = answers; otherwise = otherwise; line_is = refl }))
+pub judged_line : (telling : Telling) (w : Wanted) (attr : Option Attr) (name : List ℕ) (caps : Option (List ℕ)) (text : List ℕ) (grants : List Grant) (standing : Standing) → Some text ≡ caps → Reads (meant text) grants
+    → Answers w attr grants standing → Says telling w attr name caps true (standing_in telling name w attr standing (others_in telling w attr text standing))
+judged_line telling w attr name caps text grants standing some means answers =
+    subst (λ (c : Option (List ℕ)). Says telling w attr name c true (standing_in telling name w attr standing (others_in telling w attr text standing))) some
+    (inl (refl, record { grants = grants; standing = standing; means = means; answers = answers; line_is = refl }))

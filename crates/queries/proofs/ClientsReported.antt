@@ -16,23 +16,23 @@ use Rattle.policy_analysis.specs.declared.standing.Standing.{Standing}
 use Rattle.policy_analysis.specs.declared.standing.Standing.TheVariants.{Allowed, Denied, Depends}
 use Rattle.policy_analysis.specs.Callers.{Wanted}
 use Rattle.policy_analysis.specs.Standing.{Answers, IsFirst}
-use Rattle.policy_analysis.specs.Otherwise.{AnswersOtherwise}
-use Rattle.policy_analysis.specs.declared.differences.Difference.{Difference}
-use Rattle.policy_analysis.specs.declared.differences.Difference.TheVariants.{AttributeByFlag, LargeUid, ModeByBits, OtherFileSystem}
-use Rattle.policy_analysis.specs.declared.differences.Otherwise.{Otherwise}
+use Rattle.release_rules.specs.declared.beside.Others.{Others}
 use Rattle.texts.specs.Explaining.{failures_text, path_text}
 use Rattle.texts.specs.Lines.{HasGrantIf, HasNumber}
 use Rattle.texts.specs.Quoting.{quoted}
-use Rattle.texts.specs.Remarks.{difference_line, difference_text, there_text}
-use Rattle.texts.specs.Standing.{fault_word, standing_line, standing_otherwise, standing_reason, standing_word, unread_line}
-use Rattle.texts.proofs.Answered.{number_and, number_to, one_list_to, parted}
+use Rattle.texts.specs.MdsTold.{AreCounted}
+use Rattle.texts.specs.Standing.{fault_word, standing_line, standing_others, standing_reason, standing_word, unread_line}
+use Rattle.texts.proofs.Answered.{number_to, one_list_to, parted}
+use Rattle.texts.proofs.Beside.{AreSmall, bare_text, line_text, lines_of, lines_small, one_line, others_are, same_lines}
+use Rattle.texts.proofs.Beside.{Line as OfReleases}
 use Rattle.texts.proofs.Clients.{has_word, kind_of}
 use Rattle.texts.proofs.Quoted.{bare, before_word, clash, first_byte}
+use Rattle.queries.proofs.FewClients.{are_counted}
 use Rattle.queries.specs.declared.clients.Telling.{Telling}
 use Rattle.queries.specs.declared.clients.Telling.TheVariants.{Line, More, Object}
-use Rattle.queries.specs.Clients.{AreLines, Says, meant, standing_in, unread_in}
+use Rattle.queries.specs.Clients.{AreLines, Says, meant, nothing, others_in, standing_in, unread_in}
 use Rattle.queries.specs.Clients.AreLines.{another, client, no_more}
-use Rattle.queries.specs.ClientsReported.{HasLength, HasNumbers, Reported, SameReported, There, reported_lines, there_line}
+use Rattle.queries.specs.ClientsReported.{HasLength, HasNumbers, Reported, SameReported, reported_lines}
 use Rattle.queries.specs.ClientsReported.Reported.{judged, unread}
 
 -- ---- single lines
@@ -40,17 +40,17 @@ use Rattle.queries.specs.ClientsReported.Reported.{judged, unread}
 data Single : Type 0 where
   answer : List ℕ → Wanted → Standing → Single
   refusal : List ℕ → SpecFault → Single
-  elsewhere : List ℕ → There → Single
+  elsewhere : List ℕ → OfReleases → Single
 
 abbrev single_line : Single → List ℕ
 single_line (answer name w standing) = standing_line name w.access w.path standing
 single_line (refusal name fault) = unread_line name fault
-single_line (elsewhere name other) = there_line name other
+single_line (elsewhere name other) = line_text (quoted name ++ codes ": ") other
 
 abbrev HasLine : Single → Type 0
 HasLine (answer name w standing) = HasNumber w.access × HasGrantIf standing
 HasLine (refusal name fault) = fault.at < 2 ^ 64
-HasLine (elsewhere name other) = other.grant < 2 ^ 32
+HasLine (elsewhere name other) = other.1.grant < 2 ^ 64
 
 abbrev SameSingle : Single → Single → Type 0
 SameSingle (answer c w s) (answer d u t) = (c ≡ d) × (w.access ≡ u.access) × (path_text w.path ≡ path_text u.path) × (s ≡ t)
@@ -81,14 +81,11 @@ answered w standing s = word_of standing ++ (access_word w.access ++ 32 ∷ (quo
 abbrev faulty : SpecFault → List ℕ → List ℕ
 faulty fault s = codes "grants: " ++ (fault_word fault.kind ++ 32 ∷ (codes "at " ++ (decimal fault.at ++ 10 ∷ s)))
 
-abbrev differing : Bool → ℕ → Difference → List ℕ → List ℕ
-differing allows grant difference s = there_text allows ++ (difference_text difference ++ (codes " (grant " ++ (decimal grant ++ 41 ∷ 10 ∷ s)))
-
 -- behind the client
 abbrev said : Single → List ℕ → List ℕ
 said (answer name w standing) s = answered w standing s
 said (refusal name fault) s = faulty fault s
-said (elsewhere name other) s = differing other.allows other.grant other.difference s
+said (elsewhere name other) s = bare_text other ++ s
 
 worded : (standing : Standing) (s : List ℕ) → standing_word standing ++ s ≡ 58 ∷ 32 ∷ (word_of standing ++ s)
 worded (Allowed grant) s = refl
@@ -115,15 +112,7 @@ laid_out (refusal name fault) s =
     append_assoc (quoted name) (codes ": grants: " ++ (fault_word fault.kind ++ (codes " at " ++ end))) s
     ∙ ap (λ (r : List ℕ). quoted name ++ (codes ": grants: " ++ r)) (append_assoc (fault_word fault.kind) (codes " at " ++ end) s ∙ ap (λ (r : List ℕ). fault_word fault.kind ++ (codes " at " ++ r)) (append_assoc (decimal fault.at) (codes "\n") s))
 laid_out (elsewhere name other) s =
-    let allows : Bool = other.allows in
-    let grant : ℕ = other.grant in
-    let difference : Difference = other.difference in
-    let end : List ℕ = codes " (grant " ++ (decimal grant ++ codes ")\n") in
-    append_assoc (quoted name ++ codes ": ") (there_text allows ++ (difference_text difference ++ end)) s
-    ∙ append_assoc (quoted name) (codes ": ") ((there_text allows ++ (difference_text difference ++ end)) ++ s)
-    ∙ ap (λ (r : List ℕ). quoted name ++ (codes ": " ++ r))
-    (append_assoc (there_text allows) (difference_text difference ++ end) s
-    ∙ ap (λ (r : List ℕ). there_text allows ++ r) (append_assoc (difference_text difference) end s ∙ ap (λ (r : List ℕ). difference_text difference ++ (codes " (grant " ++ r)) (append_assoc (decimal grant) (codes ")\n") s)))
+    append_assoc (quoted name ++ codes ": ") (bare_text other) s ∙ append_assoc (quoted name) (codes ": ") (bare_text other ++ s)
 
 -- ---- the kinds of lines
 
@@ -135,16 +124,12 @@ kind (elsewhere name other) = 2
 abbrev kind_at : List ℕ → ℕ
 kind_at text = if first_byte text == 103 then 1 else (if first_byte text == 116 then 2 else 0)
 
-differs : (allows : Bool) (grant : ℕ) (difference : Difference) (s : List ℕ) → kind_at (differing allows grant difference s) ≡ 2
-differs true grant difference s = refl
-differs false grant difference s = refl
-
 has_kind : (x : Single) (s : List ℕ) → kind_at (said x s) ≡ kind x
 has_kind (answer name w (Allowed grant)) s = refl
 has_kind (answer name w (Depends grant)) s = refl
 has_kind (answer name w (Denied rules)) s = refl
 has_kind (refusal name fault) s = refl
-has_kind (elsewhere name other) s = differs other.allows other.grant other.difference s
+has_kind (elsewhere name other) s = refl
 
 one_kind : (x y : Single) (s t : List ℕ) → said x s ≡ said y t → kind x ≡ kind y
 one_kind x y s t same = sym (has_kind x s) ∙ ap kind_at same ∙ has_kind y t
@@ -188,43 +173,10 @@ one_fault f g s t small also same =
     let place : f.at ≡ g.at = number.0 in
     (λ i. record { kind = kind i; at = place i }, number.1)
 
-abbrev difference_at : List ℕ → Difference
-difference_at text = if third text == 113 then AttributeByFlag else (if third text == 99 then ModeByBits else (if first_byte (drop 8 text) == 102 then OtherFileSystem else LargeUid))
-
-has_text : (difference : Difference) (s : List ℕ) → difference_at (difference_text difference ++ s) ≡ difference
-has_text OtherFileSystem s = refl
-has_text AttributeByFlag s = refl
-has_text ModeByBits s = refl
-has_text LargeUid s = refl
-
-abbrev verb_at : List ℕ → ℕ
-verb_at text = first_byte (drop 19 text)
-
-one_there : (a b : Bool) (s t : List ℕ) → there_text a ++ s ≡ there_text b ++ t → (a ≡ b) × (s ≡ t)
-one_there true true s t same = (refl, append_cancel_left (there_text true) s t same)
-one_there true false s t same = clash 97 100 (omega arith) (ap verb_at same)
-one_there false true s t same = clash 97 100 (omega arith) (sym (ap verb_at same))
-one_there false false s t same = (refl, append_cancel_left (there_text false) s t same)
-
-abbrev differing_at : There → List ℕ → List ℕ
-differing_at x s = differing x.allows x.grant x.difference s
-
-one_other : (x y : There) (s t : List ℕ) → x.grant < 2 ^ 32 → y.grant < 2 ^ 32 → differing_at x s ≡ differing_at y t → (x ≡ y) × (s ≡ t)
-one_other x y s t small also same =
-    let u : List ℕ = codes " (grant " ++ (decimal x.grant ++ 41 ∷ 10 ∷ s) in
-    let v : List ℕ = codes " (grant " ++ (decimal y.grant ++ 41 ∷ 10 ∷ t) in
-    let verbs = one_there x.allows y.allows (difference_text x.difference ++ u) (difference_text y.difference ++ v) same in
-    let words : x.difference ≡ y.difference = sym (has_text x.difference u) ∙ ap difference_at verbs.1 ∙ has_text y.difference v in
-    let behind = append_cancel_left (difference_text x.difference) u v (verbs.1 ∙ ap (λ (k : Difference). difference_text k ++ v) (sym words)) in
-    let number = number_and 41 10 x.grant y.grant s t refl refl (omega arith) (omega arith) (append_cancel_left (codes " (grant ") _ _ behind) in
-    let verb : x.allows ≡ y.allows = verbs.0 in
-    let grant : x.grant ≡ y.grant = number.0 in
-    (λ i. record { allows = verb i; grant = grant i; difference = words i }, number.1)
-
 one_said : (x y : Single) (s t : List ℕ) → HasLine x → HasLine y → client_of x ≡ client_of y → said x s ≡ said y t → SameSingle x y × (s ≡ t)
 one_said (answer c w a) (answer d u b) s t fits also name same = let both = one_answer w u a b s t fits.0 also.0 fits.1 also.1 same in ((name, both.0.0, both.0.1, both.0.2), both.1)
 one_said (refusal c f) (refusal d g) s t fits also name same = let both = one_fault f g s t fits also same in ((name, both.0), both.1)
-one_said (elsewhere c x) (elsewhere d y) s t fits also name same = let both = one_other x y s t fits also same in ((name, both.0), both.1)
+one_said (elsewhere c x) (elsewhere d y) s t fits also name same = let both = one_line x y s t fits also same in ((name, both.0), both.1)
 one_said (answer c w a) (refusal d g) s t fits also name same = clash 0 1 (omega arith) (one_kind (answer c w a) (refusal d g) s t same)
 one_said (answer c w a) (elsewhere d y) s t fits also name same = clash 0 2 (omega arith) (one_kind (answer c w a) (elsewhere d y) s t same)
 one_said (refusal c f) (answer d u b) s t fits also name same = clash 0 1 (omega arith) (sym (one_kind (refusal c f) (answer d u b) s t same))
@@ -255,15 +207,16 @@ one_by_one (x ∷ xs) (y ∷ ys) fits also same =
 -- ---- the lines of a client
 
 abbrev singles : Reported → List Single
-singles (judged name w standing others) = answer name w standing ∷ map (elsewhere name) others
+singles (judged name w standing others) = answer name w standing ∷ map (elsewhere name) (lines_of others)
 singles (unread name fault) = refusal name fault ∷ []
 
-of_others : (name : List ℕ) (others : List There) → flat_map (there_line name) others ≡ flat_map single_line (map (elsewhere name) others)
-of_others name [] = refl
-of_others name (x ∷ others) = ap (λ (r : List ℕ). there_line name x ++ r) (of_others name others)
+of_lines : (name : List ℕ) (lines : List OfReleases) → flat_map (line_text (quoted name ++ codes ": ")) lines ≡ flat_map single_line (map (elsewhere name) lines)
+of_lines name [] = refl
+of_lines name (l ∷ lines) = ap (λ (r : List ℕ). line_text (quoted name ++ codes ": ") l ++ r) (of_lines name lines)
 
 of_one : (x : Reported) → reported_lines x ≡ flat_map single_line (singles x)
-of_one (judged name w standing others) = ap (λ (r : List ℕ). standing_line name w.access w.path standing ++ r) (of_others name others)
+of_one (judged name w standing others) =
+    ap (λ (r : List ℕ). standing_line name w.access w.path standing ++ r) (others_are (quoted name ++ codes ": ") others ∙ of_lines name (lines_of others))
 of_one (unread name fault) = sym (append-nil (unread_line name fault))
 
 of_all : (xs : List Reported) → flat_map reported_lines xs ≡ flat_map single_line (flat_map singles xs)
@@ -271,16 +224,13 @@ of_all [] = refl
 of_all (x ∷ xs) =
     ap (λ (r : List ℕ). r ++ flat_map reported_lines xs) (of_one x) ∙ ap (λ (r : List ℕ). flat_map single_line (singles x) ++ r) (of_all xs) ∙ sym (flat_map-append single_line (singles x) (flat_map singles xs))
 
-abbrev IsSmall : There → Type 0
-IsSmall other = other.grant < 2 ^ 32
-
-others_fit : (name : List ℕ) (others : List There) → All IsSmall others → All HasLine (map (elsewhere name) others)
-others_fit name [] small = All-nil HasLine
-others_fit name (x ∷ others) small =
-    All-cons HasLine (elsewhere name x) (map (elsewhere name) others) (All-head IsSmall x others small) (others_fit name others (All-tail IsSmall x others small))
+lines_fit : (name : List ℕ) (lines : List OfReleases) → AreSmall lines → All HasLine (map (elsewhere name) lines)
+lines_fit name [] small = All-nil HasLine
+lines_fit name (l ∷ lines) small = All-cons HasLine (elsewhere name l) (map (elsewhere name) lines) small.0 (lines_fit name lines small.1)
 
 one_fits : (x : Reported) → HasNumbers x → All HasLine (singles x)
-one_fits (judged name w standing others) fits = All-cons HasLine (answer name w standing) (map (elsewhere name) others) (fits.0, fits.1) (others_fit name others fits.2)
+one_fits (judged name w standing others) fits =
+    All-cons HasLine (answer name w standing) (map (elsewhere name) (lines_of others)) (fits.0, fits.1) (lines_fit name (lines_of others) (lines_small others fits.2))
 one_fits (unread name fault) fits = All-cons HasLine (refusal name fault) [] fits (All-nil HasLine)
 
 all_fit : (xs : List Reported) → All HasNumbers xs → All HasLine (flat_map singles xs)
@@ -288,7 +238,7 @@ all_fit [] fits = All-nil HasLine
 all_fit (x ∷ xs) fits = All-append HasLine (singles x) (flat_map singles xs) (one_fits x (All-head HasNumbers x xs fits)) (all_fit xs (All-tail HasNumbers x xs fits))
 
 -- no line of a client is one of the next
-next_client : (c d : List ℕ) (ps qs : List There) (xs ys : List Reported) → AllZip SameSingle (map (elsewhere c) ps ++ flat_map singles xs) (map (elsewhere d) qs ++ flat_map singles ys)
+next_client : (c d : List ℕ) (ps qs : List OfReleases) (xs ys : List Reported) → AllZip SameSingle (map (elsewhere c) ps ++ flat_map singles xs) (map (elsewhere d) qs ++ flat_map singles ys)
     → (ps ≡ qs) × AllZip SameSingle (flat_map singles xs) (flat_map singles ys)
 next_client c d [] [] xs ys same = (refl, same)
 next_client c d [] (q ∷ qs) [] ys same = absurd same
@@ -303,90 +253,74 @@ next_client c d (p ∷ ps) (q ∷ qs) xs ys same =
     let more : ps ≡ qs = rest.0 in
     (cc, rest.1)
 
-by_clients : (xs ys : List Reported) → AllZip SameSingle (flat_map singles xs) (flat_map singles ys) → AllZip SameReported xs ys
-by_clients [] [] same = tt
-by_clients [] (judged d u t qs ∷ ys) same = absurd same
-by_clients [] (unread d g ∷ ys) same = absurd same
-by_clients (judged c w s ps ∷ xs) [] same = absurd same
-by_clients (unread c f ∷ xs) [] same = absurd same
-by_clients (judged c w s ps ∷ xs) (judged d u t qs ∷ ys) same =
-    let rest = next_client c d ps qs xs ys same.1 in
-    ((same.0.0, same.0.1, same.0.2, same.0.3, rest.0), by_clients xs ys rest.1)
-by_clients (judged c w s ps ∷ xs) (unread d g ∷ ys) same = absurd same.0
-by_clients (unread c f ∷ xs) (judged d u t qs ∷ ys) same = absurd same.0
-by_clients (unread c f ∷ xs) (unread d g ∷ ys) same = (same.0, by_clients xs ys same.1)
+by_clients : (xs ys : List Reported) → All HasNumbers xs → All HasNumbers ys → AllZip SameSingle (flat_map singles xs) (flat_map singles ys) → AllZip SameReported xs ys
+by_clients [] [] fits also same = tt
+by_clients [] (judged d u t further ∷ ys) fits also same = absurd same
+by_clients [] (unread d g ∷ ys) fits also same = absurd same
+by_clients (judged c w s others ∷ xs) [] fits also same = absurd same
+by_clients (unread c f ∷ xs) [] fits also same = absurd same
+by_clients (judged c w s others ∷ xs) (judged d u t further ∷ ys) fits also same =
+    let rest = next_client c d (lines_of others) (lines_of further) xs ys same.1 in
+    let one = All-head HasNumbers (judged c w s others) xs fits in
+    let other = All-head HasNumbers (judged d u t further) ys also in (
+      (same.0.0, same.0.1, same.0.2, same.0.3, same_lines others further one.2 other.2 rest.0),
+      by_clients xs ys (All-tail HasNumbers (judged c w s others) xs fits) (All-tail HasNumbers (judged d u t further) ys also) rest.1,
+    )
+by_clients (judged c w s others ∷ xs) (unread d g ∷ ys) fits also same = absurd same.0
+by_clients (unread c f ∷ xs) (judged d u t further ∷ ys) fits also same = absurd same.0
+by_clients (unread c f ∷ xs) (unread d g ∷ ys) fits also same =
+    (same.0, by_clients xs ys (All-tail HasNumbers (unread c f) xs fits) (All-tail HasNumbers (unread d g) ys also) same.1)
 
 pub one_text : (xs ys : List Reported) → All HasNumbers xs → All HasNumbers ys → flat_map reported_lines xs ≡ flat_map reported_lines ys → AllZip SameReported xs ys
-one_text xs ys fits also same = by_clients xs ys (one_by_one (flat_map singles xs) (flat_map singles ys) (all_fit xs fits) (all_fit ys also) (sym (of_all xs) ∙ same ∙ of_all ys))
+one_text xs ys fits also same =
+    by_clients xs ys fits also (one_by_one (flat_map singles xs) (flat_map singles ys) (all_fit xs fits) (all_fit ys also) (sym (of_all xs) ∙ same ∙ of_all ys))
 
 -- ---- what is printed is such lines
 
-module _ {X : Type 0} (Fits : X → Type 0) (line : X → List ℕ) where
-  abbrev AreOf : List ℕ → Type 0
-  AreOf text = (xs : List X) × All Fits xs × (text ≡ flat_map line xs)
-
-  none : AreOf []
-  none = ([], All-nil Fits, refl)
-
-  one : (x : X) → Fits x → AreOf (line x)
-  one x fits = (x ∷ [], All-cons Fits x [] fits (All-nil Fits), sym (append-nil (line x)))
-
-  both : (s t : List ℕ) → AreOf s → AreOf t → AreOf (s ++ t)
-  both s t p q = (
-    p.0 ++ q.0,
-    All-append Fits p.0 q.0 p.1 q.1,
-    ap (λ (r : List ℕ). r ++ t) p.2 ∙ ap (λ (r : List ℕ). flat_map line p.0 ++ r) q.2 ∙ sym (flat_map-append line p.0 q.0),
-  )
-
 abbrev AreReported : List ℕ → Type 0
-AreReported text = AreOf HasNumbers reported_lines text
+AreReported text = (xs : List Reported) × All HasNumbers xs × (text ≡ flat_map reported_lines xs)
+
+none : AreReported []
+none = ([], All-nil HasNumbers, refl)
+
+one : (x : Reported) (text : List ℕ) → HasNumbers x → text ≡ reported_lines x → AreReported text
+one x text fits is = (x ∷ [], All-cons HasNumbers x [] fits (All-nil HasNumbers), is ∙ sym (append-nil (reported_lines x)))
+
+both : (s t : List ℕ) → AreReported s → AreReported t → AreReported (s ++ t)
+both s t p q = (
+  p.0 ++ q.0,
+  All-append HasNumbers p.0 q.0 p.1 q.1,
+  ap (λ (r : List ℕ). r ++ t) p.2 ∙ ap (λ (r : List ℕ). flat_map reported_lines p.0 ++ r) q.2 ∙ sym (flat_map-append reported_lines p.0 q.0),
+)
 
 same_as : (s t : List ℕ) → s ≡ t → AreReported t → AreReported s
 same_as s t is reported = (reported.0, reported.1, is ∙ reported.2)
 
-abbrev IsSmallIf : Option Otherwise → Type 0
-IsSmallIf other = IfSome other (λ o. o.grant < 2 ^ 32)
-
 module _ (name : List ℕ) where
-  of_difference : (allows : Bool) (grant : ℕ) (difference : Option Difference) → grant < 2 ^ 32 → AreOf IsSmall (there_line name) (difference_line (quoted name ++ codes ": ") allows grant difference)
-  of_difference allows grant None small = none IsSmall (there_line name)
-  of_difference allows grant (Some difference) small = one IsSmall (there_line name) (record { allows = allows; grant = grant; difference = difference }) small
-
-  of_otherwise : (other : Option Otherwise) → IsSmallIf other → AreOf IsSmall (there_line name) (standing_otherwise name other)
-  of_otherwise None small = none IsSmall (there_line name)
-  of_otherwise (Some o) small =
-      let front : List ℕ = quoted name ++ codes ": " in
-      both IsSmall (there_line name) (difference_line front o.allows o.grant o.by_grant) (difference_line front o.allows o.grant o.by_access)
-      (of_difference o.allows o.grant o.by_grant small) (of_difference o.allows o.grant o.by_access small)
-
-  of_judged : (w : Wanted) (standing : Standing) (text : List ℕ) → HasNumber w.access → HasGrantIf standing → AreOf IsSmall (there_line name) text → AreReported (standing_line name w.access w.path standing ++ text)
-  of_judged w standing text number grant others =
-      let reported : Reported = judged name w standing others.0 in
-      same_as (standing_line name w.access w.path standing ++ text) (reported_lines reported) (ap (λ (r : List ℕ). standing_line name w.access w.path standing ++ r) others.2) (one HasNumbers reported_lines reported (number, grant, others.1))
-
-  of_standing : (telling : Telling) (w : Wanted) (attr : Option Attr) (standing : Standing) (other : Option Otherwise) → telling ≢ Object → HasNumber w.access → HasGrantIf standing → IsSmallIf other
-      → AreReported (standing_in telling name w attr standing other)
-  of_standing Line w attr standing other lines number grant small =
+  of_standing : (telling : Telling) (w : Wanted) (attr : Option Attr) (standing : Standing) (others : Others) → telling ≢ Object → HasNumber w.access → HasGrantIf standing → AreCounted others
+      → AreReported (standing_in telling name w attr standing others)
+  of_standing Line w attr standing others lines number grant counted =
       let line : List ℕ = standing_line name w.access w.path standing in
-      same_as line (line ++ []) (sym (append-nil line)) (of_judged w standing [] number grant (none IsSmall (there_line name)))
-  of_standing More w attr standing other lines number grant small = of_judged w standing (standing_otherwise name other) number grant (of_otherwise other small)
-  of_standing Object w attr standing other lines number grant small = absurd (lines refl)
+      one (judged name w standing nothing) line (number, grant, (tt, tt, tt)) (sym (append-nil line))
+  of_standing More w attr standing others lines number grant counted =
+      one (judged name w standing others) (standing_line name w.access w.path standing ++ standing_others name others) (number, grant, counted) refl
+  of_standing Object w attr standing others lines number grant counted = absurd (lines refl)
 
   of_fault : (telling : Telling) (w : Wanted) (attr : Option Attr) (fault : SpecFault) → telling ≢ Object → fault.at < 2 ^ 64 → AreReported (unread_in telling name w attr fault)
-  of_fault Line w attr fault lines small = one HasNumbers reported_lines (unread name fault) small
-  of_fault More w attr fault lines small = one HasNumbers reported_lines (unread name fault) small
+  of_fault Line w attr fault lines small = one (unread name fault) (unread_line name fault) small refl
+  of_fault More w attr fault lines small = one (unread name fault) (unread_line name fault) small refl
   of_fault Object w attr fault lines small = absurd (lines refl)
 
 -- the text that is judged is no longer
 ten : length (codes "allow rwps") ≡ 10
 ten = refl
 
-is_short : (text : List ℕ) → length text < 2 ^ 64 → length (meant text) < 2 ^ 64
+is_short : (text : List ℕ) → length text < 2 ^ 63 → length (meant text) < 2 ^ 64
 is_short text short = by_case (bytes_eq text (codes "allow"))
   where
     by_case : (b : Bool) → length (if b then codes "allow rwps" else text) < 2 ^ 64
     by_case true = omega (arith, ten)
-    by_case false = short
+    by_case false = omega (arith, short)
 
 first : (Does Not : Grant → Type 0) (grants : List Grant) (number : ℕ) → length grants ≤ 16 → IsFirst Does Not grants number → number < 2 ^ 32
 first Does Not grants number few is = omega (arith, few, is.counted, ap (λ (gs : List Grant). length gs) is.order ∙ length-append is.before (is.grant ∷ is.after))
@@ -400,22 +334,20 @@ module _ (telling : Telling) (w : Wanted) (attr : Option Attr) (lines : telling 
   small_standing None grants (Depends grant) few is = first _ _ grants grant few is.0
   small_standing None grants (Denied rules) few is = tt
 
-  small_other : (grants : List Grant) (other : Option Otherwise) → length grants ≤ 16 → AnswersOtherwise w attr grants other → IsSmallIf other
-  small_other grants None few is = tt
-  small_other grants (Some o) few is = first _ _ grants o.grant few is.first
-
-  of_client : (name : List ℕ) (caps : Option (List ℕ)) (is_judged : Bool) (line : List ℕ) → IfSome caps (λ text. length text < 2 ^ 64) → Says telling w attr name caps is_judged line → AreReported line
-  of_client name None is_judged line short says = same_as line (standing_in telling name w attr (Denied []) None) says.1 (of_standing name telling w attr (Denied []) None lines number tt tt)
+  of_client : (name : List ℕ) (caps : Option (List ℕ)) (is_judged : Bool) (line : List ℕ) → IfSome caps (λ text. length text < 2 ^ 63) → Says telling w attr name caps is_judged line → AreReported line
+  of_client name None is_judged line short says = same_as line (standing_in telling name w attr (Denied []) nothing) says.1 (of_standing name telling w attr (Denied []) nothing lines number tt (tt, tt, tt))
   of_client name (Some text) is_judged line short (inl (true_is, is)) =
-      same_as line (standing_in telling name w attr is.standing is.other) is.line_is
-      (of_standing name telling w attr is.standing is.other lines number (small_standing attr is.grants is.standing is.means.few is.answers) (small_other is.grants is.other is.means.few is.otherwise))
+      let others : Others = others_in telling w attr text is.standing in
+      let small : HasGrantIf is.standing = small_standing attr is.grants is.standing is.means.few is.answers in
+      same_as line (standing_in telling name w attr is.standing others) is.line_is
+      (of_standing name telling w attr is.standing others lines number small (are_counted telling w attr text is.standing short small))
   of_client name (Some text) is_judged line short (inr (false_is, is)) =
       same_as line (unread_in telling name w attr is.fault) is.line_is (of_fault name telling w attr is.fault lines (let small = is_short text short in omega (arith, small, ap (λ (f : SpecFault). f.at) is.first.2)))
 
   of_clients : (es : List Named) (is_judged : Bool) (text : List ℕ) → All HasLength es → AreLines (Says telling w attr) es is_judged text → AreReported text
-  of_clients es is_judged text short no_more = none HasNumbers reported_lines
+  of_clients es is_judged text short no_more = none
   of_clients (e ∷ es) all text short (client is_judged others line rest is says more) =
-      both HasNumbers reported_lines line rest (of_client e.name e.caps is_judged line (All-head HasLength e es short) says) (of_clients es others rest (All-tail HasLength e es short) more)
+      both line rest (of_client e.name e.caps is_judged line (All-head HasLength e es short) says) (of_clients es others rest (All-tail HasLength e es short) more)
   of_clients (e ∷ es) is_judged text short (another is more) = of_clients es is_judged text (All-tail HasLength e es short) more
 
 pub each_has_its_lines : (telling : Telling) (w : Wanted) (attr : Option Attr) (es : List Named) (is_judged : Bool) (text : List ℕ) → telling ≢ Object → HasNumber w.access → All HasLength es → AreLines (Says telling w attr) es is_judged text

@@ -13,29 +13,28 @@ use Rattle.capgrant.specs.declared.access.Access.{Access}
 use Rattle.capgrant.specs.declared.answer.Verdict.{Verdict}
 use Rattle.capgrant.specs.declared.answer.Verdict.TheVariants.{Allowed, Denied}
 use Rattle.capgrant.specs.Question.{Question as Asked}
-use Rattle.policy_analysis.specs.declared.differences.Otherwise.{Otherwise}
 use Rattle.policy_analysis.specs.Left.{left_to_client}
-use Rattle.policy_analysis.specs.Differences.{answered_otherwise}
+use Rattle.release_rules.specs.declared.beside.Others.{Others}
 use Rattle.texts.specs.Lines.{HasNumber}
 use Rattle.texts.specs.Quoting.{is_plain, quoted}
-use Rattle.texts.specs.Remarks.{remarked_text}
+use Rattle.texts.specs.Mds.{beside_text}
 use Rattle.texts.specs.Standing.{fault_word}
 use Rattle.texts.proofs.Answered.{number_and, number_to, plain_number}
-use Rattle.texts.proofs.Asked.{is_remarked}
+use Rattle.texts.proofs.Beside.{one_beside_to}
 use Rattle.texts.proofs.Clients.{has_word, kind_of}
 use Rattle.texts.proofs.Quoted.{bare, bare_to, before_a_line_feed, first_byte}
-use Rattle.texts.proofs.Remarked.{IsOther, one_remark_to}
+use Rattle.texts.proofs.Remarked.{IsOther}
 use Rattle.queries.specs.declared.fault.QuestionFault.{QuestionFault}
 use Rattle.queries.specs.declared.fault.QuestionFault.TheVariants.{Grants as BadGrants}
 use Rattle.queries.specs.declared.fault.QuestionFault.TheVariants.{BadValue, NoMemory}
 use Rattle.queries.specs.declared.options.Opt.{Opt}
-use Rattle.queries.specs.declared.options.Opt.TheVariants.{Fs, Gid, Grants, Group, Groups, Mode, Owner, Path, Uid}
+use Rattle.queries.specs.declared.options.Opt.TheVariants.{Addr, Fs, Gid, Grants, Group, Groups, Mode, Owner, Path, Uid}
 use Rattle.queries.specs.declared.options.Opt.TheVariants.{Access as AccessWord}
 use Rattle.queries.specs.declared.question.Question.{Question}
 use Rattle.queries.specs.declared.question.Values.{Values}
 use Rattle.queries.specs.Options.{option_name}
 use Rattle.queries.specs.Question.{AsksFor, IsFaultIn, verdict_on}
-use Rattle.queries.specs.Remarks.{asked_of, full_text}
+use Rattle.queries.specs.Remarks.{asked_of, others_on, remarked_answer}
 use Rattle.texts.specs.ScriptLines.{lines}
 use Rattle.queries.specs.Checks.{CheckTexts, HeadTexts, check_of, head_in}
 use Rattle.queries.specs.Before.{BeforeTexts, GivenTexts, given_of, known_of, said_before}
@@ -49,13 +48,14 @@ use Rattle.queries.specs.Reported.AreReported.{no_more, one_more}
 use Rattle.queries.specs.Reported.IsReported.{checked, kept, passed_over}
 use Rattle.queries.proofs.LogLines.{few_passed, next_number}
 use Rattle.queries.proofs.AnyPaths.{has_small, one_any_path}
+use Rattle.queries.proofs.FewThere.{are_beside}
 use Rattle.queries.proofs.Fitting.{AreShort, HasFew, all_asked, few_lines, fits, near_fault, short_check, short_grants, short_head, short_lines}
 
 -- ---- how the lines begin
 
 -- behind the number
 abbrev said : Reported → List ℕ
-said (answered q) = full_text q
+said (answered grants q) = remarked_answer grants q
 said (pathless q) = codes "no path in this line: " ++ any_path_text q.access (any_path_of q)
 said formless = codes "a check that is not as an MDS writes it\n"
 said (unknown mask) = codes "unknown mask " ++ (quoted mask ++ codes "\n")
@@ -69,7 +69,7 @@ bare_number : (number : ℕ) → number < 2 ^ 64 → quoted (decimal number) ≡
 bare_number number small = let plain = plain_number number small in rw plain refl
 
 laid_out : (number : ℕ) (reported : Reported) (s : List ℕ) → number < 2 ^ 64 → lines_of number reported ++ s ≡ behind_number number (said reported ++ s)
-laid_out number (answered q) s small = append_assoc (decimal number) (codes ": " ++ full_text q) s
+laid_out number (answered grants q) s small = append_assoc (decimal number) (codes ": " ++ remarked_answer grants q) s
 laid_out number (pathless q) s small = append_assoc (decimal number) (codes ": " ++ said (pathless q)) s
 laid_out number formless s small = append_assoc (decimal number) (codes ": " ++ said formless) s
 laid_out number (unknown mask) s small = append_assoc (decimal number) (codes ": " ++ said (unknown mask)) s
@@ -94,7 +94,7 @@ others (x ∷ xs) passed reported =
 -- ---- the kinds of things
 
 abbrev tag : Reported → ℕ
-tag (answered q) = 0
+tag (answered grants q) = 0
 tag (pathless q) = 5
 tag formless = 1
 tag (unknown mask) = 2
@@ -106,12 +106,12 @@ tag_at text =
     let byte : ℕ = first_byte text in
     if byte == 117 then 2 else (if byte == 103 then 3 else (if byte == 98 then 4 else (if byte == 110 then 5 else (if first_byte (drop 1 text) == 32 then 1 else 0))))
 
-of_answer : (q : Asked) (v : Verdict) (left : Option ℕ) (other : Option Otherwise) (s : List ℕ) → tag_at (remarked_text q v left other ++ s) ≡ 0
-of_answer q (Allowed grant) left other s = refl
-of_answer q (Denied rules) left other s = refl
+of_answer : (q : Asked) (v : Verdict) (left : Option ℕ) (beside : Others) (s : List ℕ) → tag_at (beside_text q v left beside ++ s) ≡ 0
+of_answer q (Allowed grant) left beside s = refl
+of_answer q (Denied rules) left beside s = refl
 
 has_tag : (reported : Reported) (s : List ℕ) → tag_at (said reported ++ s) ≡ tag reported
-has_tag (answered q) s = of_answer (asked_of q) (verdict_on q) (left_to_client (asked_of q) q.grants) (answered_otherwise (asked_of q) q.grants) s
+has_tag (answered grants q) s = of_answer (asked_of q) (verdict_on q) (left_to_client (asked_of q) q.grants) (others_on grants q) s
 has_tag (pathless q) s = refl
 has_tag formless s = refl
 has_tag (unknown mask) s = refl
@@ -124,7 +124,8 @@ abbrev option_of : List ℕ → Opt
 option_of word =
     if bytes_eq word (codes "grants") then Grants else (if bytes_eq word (codes "fs") then Fs else (if bytes_eq word (codes "uid") then Uid
     else (if bytes_eq word (codes "gid") then Gid else (if bytes_eq word (codes "groups") then Groups else (if bytes_eq word (codes "path") then Path
-    else (if bytes_eq word (codes "owner") then Owner else (if bytes_eq word (codes "group") then Group else (if bytes_eq word (codes "mode") then Mode else AccessWord))))))))
+    else (if bytes_eq word (codes "owner") then Owner else (if bytes_eq word (codes "group") then Group else (if bytes_eq word (codes "mode") then Mode
+    else (if bytes_eq word (codes "access") then AccessWord else Addr)))))))))
 
 has_name : (option : Opt) → (option_of (option_name option) ≡ option) × (list_all is_plain (option_name option) ≡ true)
 has_name Grants = (refl, refl)
@@ -137,6 +138,7 @@ has_name Owner = (refl, refl)
 has_name Group = (refl, refl)
 has_name Mode = (refl, refl)
 has_name AccessWord = (refl, refl)
+has_name Addr = (refl, refl)
 
 -- ---- one thing for its lines
 
@@ -161,9 +163,9 @@ one_option o p s t same =
     (sym (has_name o).0 ∙ ap option_of both.0 ∙ (has_name p).0, both.1)
 
 one_said : (x y : Reported) (s t : List ℕ) → IsTellable x → IsTellable y → IsOther s → IsOther t → said x ++ s ≡ said y ++ t → SameReported x y × (s ≡ t)
-one_said (answered q) (answered r) s t p o low too same =
-    one_remark_to (asked_of q) (asked_of r) (verdict_on q) (verdict_on r) (left_to_client (asked_of q) q.grants) (left_to_client (asked_of r) r.grants) (answered_otherwise (asked_of q) q.grants) (answered_otherwise (asked_of r) r.grants) s t
-    (is_remarked (asked_of q) q.grants p) (is_remarked (asked_of r) r.grants o) low too same
+one_said (answered grants q) (answered also r) s t p o low too same =
+    one_beside_to (asked_of q) (asked_of r) (verdict_on q) (verdict_on r) (left_to_client (asked_of q) q.grants) (left_to_client (asked_of r) r.grants) (others_on grants q) (others_on also r) s t
+    (are_beside grants q p.0 p.1) (are_beside also r o.0 o.1) low too same
 one_said (pathless q) (pathless r) s t p o low too same =
     one_any_path q.access r.access (any_path_of q) (any_path_of r) s t p.access o.access (has_small q p) (has_small r o) (append_cancel_left (codes "no path in this line: ") _ _ same)
 one_said formless formless s t p o low too same = (tt, append_cancel_left (said formless) s t same)
@@ -213,49 +215,50 @@ module _ (number : ℕ) (small : number < 2 ^ 64) where
   one : (reported : Reported) (text : List ℕ) → IsTellable reported → text ≡ lines_of number reported → AreLines text
   one reported text fits is = ((number, reported) ∷ [], All-cons HasLines (number, reported) [] (small, fits) (All-nil HasLines), is ∙ sym (append-nil (lines_of number reported)))
 
-  of_accesses : (v : Values) (q : Question) (has_path : Bool) → AsksFor v q → (accesses : List Access) → All HasNumber accesses → AreLines (flat_map (said_line has_path number q) accesses)
-  of_accesses v q has_path asks [] numbers = none [] refl
-  of_accesses v q true asks (access ∷ accesses) numbers =
-      let reported : Reported = answered (with_access q access) in
-      let more = of_accesses v q true asks accesses (All-tail HasNumber access accesses numbers) in (
+  of_accesses : (v : Values) (grants : List ℕ) (q : Question) (has_path : Bool) → length grants < 2 ^ 63 → AsksFor v q → (accesses : List Access) → All HasNumber accesses
+      → AreLines (flat_map (said_line has_path number grants q) accesses)
+  of_accesses v grants q has_path short asks [] numbers = none [] refl
+  of_accesses v grants q true short asks (access ∷ accesses) numbers =
+      let reported : Reported = answered grants (with_access q access) in
+      let more = of_accesses v grants q true short asks accesses (All-tail HasNumber access accesses numbers) in (
         (number, reported) ∷ more.0,
-        All-cons HasLines (number, reported) more.0 (small, fits v q access asks (All-head HasNumber access accesses numbers)) more.1,
-        ap (λ (r : List ℕ). answer_lines number q access ++ r) more.2,
+        All-cons HasLines (number, reported) more.0 (small, (fits v q access asks (All-head HasNumber access accesses numbers), short)) more.1,
+        ap (λ (r : List ℕ). answer_lines number grants q access ++ r) more.2,
       )
-  of_accesses v q false asks (access ∷ accesses) numbers =
+  of_accesses v grants q false short asks (access ∷ accesses) numbers =
       let reported : Reported = pathless (with_access q access) in
-      let more = of_accesses v q false asks accesses (All-tail HasNumber access accesses numbers) in (
+      let more = of_accesses v grants q false short asks accesses (All-tail HasNumber access accesses numbers) in (
         (number, reported) ∷ more.0,
         All-cons HasLines (number, reported) more.0 (small, fits v q access asks (All-head HasNumber access accesses numbers)) more.1,
         ap (λ (r : List ℕ). pathless_line number q access ++ r) more.2,
       )
 
-  of_fault : (check : CheckTexts) (v : Values) (fault : QuestionFault) (text : List ℕ) → v.grants.items ≡ check.grants → length check.grants < 2 ^ 64 → IsFaultIn v fault → SaysFault number fault text → AreLines text
+  of_fault : (check : CheckTexts) (v : Values) (fault : QuestionFault) (text : List ℕ) → v.grants.items ≡ check.grants → length check.grants < 2 ^ 63 → IsFaultIn v fault → SaysFault number fault text → AreLines text
   of_fault check v (BadGrants fault) text same short first says = one (refused fault) text (omega (arith, near_fault v.grants.items fault first, ap (λ (bytes : List ℕ). length bytes) same, short)) says
   of_fault check v (BadValue option) text same short first says = one (bad option) text tt says
   of_fault check v NoMemory text same short first says = absurd says
 
-  of_values : (given : GivenTexts) (path : List ℕ) (check : CheckTexts) (v : Values) (text : List ℕ) (has_path judged : Bool) → length check.grants < 2 ^ 64 → AreValues given path check v
+  of_values : (given : GivenTexts) (path : List ℕ) (check : CheckTexts) (v : Values) (text : List ℕ) (has_path judged : Bool) → length check.grants < 2 ^ 63 → AreValues given path check v
       → IsAnswered number has_path check v text judged ⊎ (IsFaulty number v text × (judged ≡ false)) → AreLines text
   of_values given path check v text has_path judged short values (inl says) =
-      let reported = of_accesses v says.question has_path says.asks (accesses_of says.mask) (all_asked check says.mask says.is_mask) in
+      let reported = of_accesses v check.grants says.question has_path short says.asks (accesses_of says.mask) (all_asked check says.mask says.is_mask) in
       (reported.0, reported.1, says.more_is ∙ reported.2)
   of_values given path check v text has_path judged short values (inr says) = of_fault check v says.0.fault text values.grants short says.0.first says.0.says
 
-  of_check : (given : GivenTexts) (check : CheckTexts) (text : List ℕ) (judged : Bool) → length check.grants < 2 ^ 64 → Says number given check text judged → AreLines text
+  of_check : (given : GivenTexts) (check : CheckTexts) (text : List ℕ) (judged : Bool) → length check.grants < 2 ^ 63 → Says number given check text judged → AreLines text
   of_check given check text judged short (inl says) = one (unknown check.mask) text tt says.1
   of_check given check text judged short (inr says) = of_values given (path_or_root given.path) check says.0 text (is_some given.path) judged short says.1 says.2
 
-  of_form : (fs : List ℕ) (name : Option (List ℕ)) (before : Option BeforeTexts) (check : Option CheckTexts) (text : List ℕ) (judged : Bool) → IfSome check (λ c. length c.grants < 2 ^ 64)
+  of_form : (fs : List ℕ) (name : Option (List ℕ)) (before : Option BeforeTexts) (check : Option CheckTexts) (text : List ℕ) (judged : Bool) → IfSome check (λ c. length c.grants < 2 ^ 63)
       → SaysIf number fs name before check text judged → AreLines text
   of_form fs name before None text judged short says = one formless text tt says.0
   of_form fs name before (Some check) text judged short says = of_check (given_of fs name (known_of check before) check) check text judged short says
 
 -- the grants of a check in a line of a short log
-short_check_of : (most : ℕ) (text : List ℕ) → length text ≤ most → most < 2 ^ 63 → IfSome (check_of text) (λ c. length c.grants < 2 ^ 64)
+short_check_of : (most : ℕ) (text : List ℕ) → length text ≤ most → most < 2 ^ 63 → IfSome (check_of text) (λ c. length c.grants < 2 ^ 63)
 short_check_of most text inside short = by_check (check_of text) (short_grants text)
   where
-    by_check : (check : Option CheckTexts) → IfSome check (λ c. length c.grants ≤ length text) → IfSome check (λ c. length c.grants < 2 ^ 64)
+    by_check : (check : Option CheckTexts) → IfSome check (λ c. length c.grants ≤ length text) → IfSome check (λ c. length c.grants < 2 ^ 63)
     by_check None fit = tt
     by_check (Some check) fit = omega (arith, fit, inside, short)
 

@@ -5,6 +5,7 @@ pub mod GivenNames
 pub mod Spelling
 pub mod TextFault
 pub mod ClientLines
+pub mod FewClients
 pub mod ClientsReported
 pub mod ClientsBy
 pub mod Looked
@@ -14,5 +15,6 @@ pub mod LogLines
 pub mod LogPieces
 pub mod Fitting
 pub mod AnyPaths
+pub mod FewThere
 pub mod Items
 pub mod WrittenChecks

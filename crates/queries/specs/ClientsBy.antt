@@ -13,10 +13,9 @@ use Rattle.texts.specs.MdsStandings.{mds_client_text, mds_standing_object, mds_u
 use Rattle.queries.specs.declared.clients.Telling.{Telling}
 use Rattle.queries.specs.declared.clients.Telling.TheVariants.{Line, More, Object}
 
--- the same access in a cluster of a release, if one is named
-abbrev pub wanted_there : Wanted → Option Attr → Option Release → Option MdsWanted
-wanted_there w attr None = None
-wanted_there w attr (Some release) = Some (record { release = release; fs = w.fs; path = w.path; access = w.access; known = attr })
+-- the same access in a cluster of a release
+abbrev pub wanted_there : Wanted → Option Attr → Release → MdsWanted
+wanted_there w attr release = record { release = release; fs = w.fs; path = w.path; access = w.access; known = attr }
 
 -- what is said of a client, told in this way: lines, or an object that says all of it
 abbrev pub mds_standing_in : Telling → List ℕ → MdsWanted → MdsStanding → List ℕ

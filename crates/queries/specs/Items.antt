@@ -7,19 +7,18 @@ use Rattle.texts.specs.Explaining.{path_text}
 use Rattle.texts.specs.Remarked.{AreLeftAlike, HasNumbers}
 use Rattle.texts.specs.Standing.{unread_line}
 use Rattle.policy_analysis.specs.Left.{left_to_client}
-use Rattle.policy_analysis.specs.Differences.{answered_otherwise}
 use Rattle.queries.specs.declared.options.Opt.{Opt}
 use Rattle.queries.specs.declared.question.Question.{Question}
 use Rattle.queries.specs.Options.{option_name}
 use Rattle.queries.specs.Question.{verdict_on}
-use Rattle.queries.specs.Remarks.{asked_of}
+use Rattle.queries.specs.Remarks.{asked_of, others_on}
 use Rattle.queries.specs.AnyPath.{any_path_of}
 use Rattle.queries.specs.Reported.{IsReportOf, answer_lines, formless_line, passed_line, pathless_line, unknown_line}
 
--- the answer to a question of a check, at its path or where none is known; that it has another form; an unknown mask; what is wrong with its
--- grants, or with another part
+-- the answer to a question of a check at its path, by the text of its grants; or where no path is known; that it has another form; an unknown
+-- mask; what is wrong with its grants, or with another part
 pub data Reported : Type 0 where
-  answered : Question → Reported
+  answered : List ℕ → Question → Reported
   pathless : Question → Reported
   formless : Reported
   unknown : List ℕ → Reported
@@ -28,7 +27,7 @@ pub data Reported : Type 0 where
 
 -- its lines, behind the number
 abbrev pub lines_of : ℕ → Reported → List ℕ
-lines_of number (answered q) = answer_lines number q q.access
+lines_of number (answered grants q) = answer_lines number grants q q.access
 lines_of number (pathless q) = pathless_line number q q.access
 lines_of number formless = formless_line number
 lines_of number (unknown mask) = unknown_line number mask
@@ -46,7 +45,7 @@ reported_in all passed = flat_map reported_lines all ++ passed_line passed
 
 -- its numbers fit
 abbrev pub IsTellable : Reported → Type 0
-IsTellable (answered q) = HasNumbers (asked_of q) q.grants
+IsTellable (answered grants q) = HasNumbers (asked_of q) q.grants × (length grants < 2 ^ 63)
 IsTellable (pathless q) = HasNumbers (asked_of q) q.grants
 IsTellable (refused fault) = fault.at < 2 ^ 64
 IsTellable reported = Unit {0}
@@ -54,15 +53,15 @@ IsTellable reported = Unit {0}
 abbrev pub HasLines : ℕ × Reported → Type 0
 HasLines reported = (reported.0 < 2 ^ 64) × IsTellable reported.1
 
--- the same access is asked for at the same path, and the same is said to that and beside it
-abbrev pub AnswerAlike : Question → Question → Type 0
-AnswerAlike q r =
+-- the same access is asked for at the same path, and the same is said to that and beside it, by the texts of the grants
+abbrev pub AnswerAlike : List ℕ → Question → List ℕ → Question → Type 0
+AnswerAlike grants q others r =
     (q.access ≡ r.access) × (path_text q.path ≡ path_text r.path) × (verdict_on q ≡ verdict_on r)
     × AreLeftAlike q.attr (left_to_client (asked_of q) q.grants) r.attr (left_to_client (asked_of r) r.grants)
-    × (answered_otherwise (asked_of q) q.grants ≡ answered_otherwise (asked_of r) r.grants)
+    × (others_on grants q ≡ others_on others r)
 
 abbrev pub SameReported : Reported → Reported → Type 0
-SameReported (answered q) (answered r) = AnswerAlike q r
+SameReported (answered grants q) (answered others r) = AnswerAlike grants q others r
 SameReported (pathless q) (pathless r) = (q.access ≡ r.access) × (any_path_of q ≡ any_path_of r)
 SameReported formless formless = Unit {0}
 SameReported (unknown mask) (unknown other) = mask ≡ other

@@ -1,16 +1,14 @@
 -- What the MDS of a release says to what values ask.
 use Rattle.std.specs.Prelude.{◌≡◌, ⊤, ℕ, Bool, true, false, ◌&&◌, Option, None, option_map, Ok, Err, List, if◌then◌else◌}
-use Rattle.capgrant.specs.declared.access.Access.{Access}
-use Rattle.capgrant.specs.declared.access.Access.TheVariants.{Read, SetVxattr, Snapshot}
 use Rattle.capgrant.specs.Question.{Question as Asked}
 use Rattle.capgrant.specs.Question.{question}
 use Rattle.release_rules.specs.declared.asked.Asked.{Asked as AskedFor}
 use Rattle.release_rules.specs.declared.grant.Grant.{Grant}
 use Rattle.release_rules.specs.declared.release.Release.{Release}
 use Rattle.release_rules.specs.declared.verdict.Verdict.{Verdict}
-use Rattle.release_rules.specs.declared.verdict.Verdict.TheVariants.{Allowed, CannotMount}
+use Rattle.release_rules.specs.declared.verdict.Verdict.TheVariants.{CannotMount}
 use Rattle.release_rules.specs.Asked.{asked_for}
-use Rattle.release_rules.specs.Clients.{client_refuses}
+use Rattle.release_rules.specs.Clients.{changes_attributes, client_refuses}
 use Rattle.release_rules.specs.Networks.{address_of}
 use Rattle.release_rules.specs.Question.{Question}
 use Rattle.release_rules.specs.Reading.{read_of}
@@ -40,13 +38,6 @@ IsMdsFault release text faults.NoMemory = ⊤
 abbrev pub mds_question : Asking → AskedFor → Question
 mds_question a asked = record { fs = a.fs; caller = a.caller; path = a.path; attr = a.attr; asked = asked; address = option_map address_of a.address }
 
--- the access changes attributes, as a client checks it before it asks; to write may be to change the size or the times
-abbrev pub changes_attributes : Access → Bool
-changes_attributes Read = false
-changes_attributes SetVxattr = false
-changes_attributes Snapshot = false
-changes_attributes access = true
-
 abbrev pub mounts : Verdict → Bool
 mounts CannotMount = false
 mounts verdict = true
@@ -58,10 +49,6 @@ answer_by release a grants =
     let asked = mds_question a (asked_for a.access) in
     let verdict = verdict_of switches asked grants in
     record { release = release; verdict = verdict; refused = if mounts verdict && changes_attributes a.access then client_refuses switches asked grants else None }
-
-abbrev pub is_allowed : Verdict → Bool
-is_allowed (Allowed grant) = true
-is_allowed verdict = false
 
 -- as lines
 abbrev pub lines_by : Asking → MdsAnswer → List ℕ

@@ -10,7 +10,7 @@ use Rattle.queries.specs.declared.question.Question.{Question}
 use Rattle.queries.specs.declared.question.Values.{Values}
 use Rattle.queries.specs.Options.{option_name}
 use Rattle.queries.specs.Question.{AsksFor, IsFaultIn}
-use Rattle.queries.specs.Remarks.{full_text}
+use Rattle.queries.specs.Remarks.{remarked_answer}
 use Rattle.texts.specs.Quoting.{quoted}
 use Rattle.texts.specs.Standing.{unread_line}
 use Rattle.texts.specs.ScriptLines.{lines}
@@ -41,9 +41,9 @@ pub record AreValues (given : GivenTexts) (at : List ℕ) (check : CheckTexts) (
 abbrev pub with_access : Question → Access → Question
 with_access q access = record q { access = access }
 
--- behind the number of the line, what is answered to the question of this access
-abbrev pub answer_lines : ℕ → Question → Access → List ℕ
-answer_lines number q access = decimal number ++ (codes ": " ++ full_text (with_access q access))
+-- behind the number of the line, what is answered to the question of this access, whose grants were read in this text
+abbrev pub answer_lines : ℕ → List ℕ → Question → Access → List ℕ
+answer_lines number grants q access = decimal number ++ (codes ": " ++ remarked_answer grants (with_access q access))
 
 -- a line for a check of another form
 abbrev pub formless_line : ℕ → List ℕ
@@ -60,8 +60,8 @@ is_sure (Somewhere grant) = false
 is_sure Nowhere = true
 
 -- what is answered to the question of this access, where its path is known, or is not
-abbrev pub said_line : Bool → ℕ → Question → Access → List ℕ
-said_line has_path number q access = if has_path then answer_lines number q access else pathless_line number q access
+abbrev pub said_line : Bool → ℕ → List ℕ → Question → Access → List ℕ
+said_line has_path number grants q access = if has_path then answer_lines number grants q access else pathless_line number q access
 
 -- whether that is an answer
 abbrev pub is_answer : Bool → Question → Access → Bool
@@ -83,7 +83,7 @@ pub record IsAnswered (number : ℕ) (has_path : Bool) (check : CheckTexts) (v :
   pub question : Question
   pub is_mask : IsMaskOf check mask
   pub asks : AsksFor v question
-  pub more_is : more ≡ flat_map (said_line has_path number question) (accesses_of mask)
+  pub more_is : more ≡ flat_map (said_line has_path number check.grants question) (accesses_of mask)
   pub judged_is : judged ≡ list_all (is_answer has_path question) (accesses_of mask)
 
 -- or the first fault of its values

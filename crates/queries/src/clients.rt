@@ -1,7 +1,7 @@
 //! Which clients of a cluster may make an access.
 ghost use Rattle.std.specs.Prelude.{◌≡◌, ◌++◌, ℕ, List, IfOk, OnOk};
 ghost use Rattle.queries.specs.Attempts.{wanted_by};
-ghost use Rattle.queries.specs.Clients.{AnswersWho, AreLines, Says, SaysFor, is_told, meant, standing_in, unread_in};
+ghost use Rattle.queries.specs.Clients.{AnswersWho, Says, SaysFor, is_told, meant, nothing, others_in, others_to, standing_in, unread_in};
 ghost use Rattle.queries.specs.ClientsBy.{wanted_there};
 
 use crate::attempt::Attempt;
@@ -10,12 +10,11 @@ use crate::grant_text::read_text;
 use capgrant::Attr;
 use capspec::{FsName, SpecFault};
 use ceph_input::{AuthList, Entity};
-use policy_analysis::{MdsWanted, Otherwise, Standing, Wanted};
-use release_rules::Release;
+use policy_analysis::{MdsWanted, Standing, Wanted};
+use release_rules::{Others, Release};
 use std::alloc::{AllocError, Global};
 use texts::{
-    print_standing, print_standing_object, print_standing_otherwise, print_unread,
-    print_unread_object,
+    print_standing, print_standing_object, print_standing_others, print_unread, print_unread_object,
 };
 
 /// How it is told of a client whether it may.
@@ -23,7 +22,7 @@ use texts::{
 pub enum Telling {
     /// By a line.
     Line,
-    /// By that line, and by lines for where the MDS of Ceph 16 answers somebody behind its key otherwise.
+    /// By that line, and by lines for where the MDS of a release answers somebody behind its key otherwise.
     More,
     /// By an object of JSON that says all of it, as a line.
     Object,
@@ -33,8 +32,8 @@ pub enum Telling {
 #[derive(Clone, Copy)]
 struct ClientAnswer<'a> {
     standing: &'a Standing,
-    // What the MDS of Ceph 16 answers somebody behind its key otherwise, if anything.
-    otherwise: &'a Option<Otherwise>,
+    // What the MDS of each release answers somebody behind its key otherwise, if anything.
+    others: &'a Others,
 }
 
 /// What is told of the clients of a cluster.
@@ -69,51 +68,12 @@ pub fn who_lines(
 ) -> Result<WhoAnswer, AllocError>
     ensures { IfOk result (AnswersWho telling (wanted_by attempt.now fs.now) attempt.now.attr mds list.now) }
 {
-    let names = attempt.path.names(alloc)?;
-    let wanted = Wanted {
-        fs,
-        path: names.as_slice(),
-        access: attempt.access,
-    };
-    let there = attempt.wanted_there(fs, mds);
-    let clients = list.entities();
-    client_lines(alloc, clients, &wanted, &attempt.attr, &there, telling)
-}
-
-impl Attempt {
-    // The same in a cluster of a release, if one is named.
-    fn wanted_there<'a>(&'a self, fs: &'a FsName, mds: Option<Release>) -> Option<MdsWanted<'a>>
-        ensures { result ≡ wanted_there (wanted_by self.now fs.now) self.now.attr mds }
-    {
-        match mds {
-            Some(release) => Some(MdsWanted {
-                release,
-                fs,
-                path: &self.path,
-                access: self.access,
-                known: &self.attr,
-            }),
-            None => None,
-        }
-    }
-}
-
-// The lines of those of whom is told.
-fn client_lines(
-    alloc: Global,
-    entities: &[Entity],
-    wanted: &Wanted<'_>,
-    attr: &Option<Attr>,
-    there: &Option<MdsWanted<'_>>,
-    telling: Telling,
-) -> Result<WhoAnswer, AllocError>
-    ensures { IfOk result (λ answer. AreLines (SaysFor telling wanted.now attr.now there.now) entities.now answer.judges_all answer.lines.items) }
-{
     let mut lines = Vec::new(alloc);
     let mut judges_all = true;
+    let entities = list.entities();
     for entity in entities {
         if is_told(entity) {
-            let is_judged = print_entity(&mut lines, entity, wanted, attr, there, telling)?;
+            let is_judged = print_entity(&mut lines, entity, attempt, fs, mds, telling)?;
             judges_all = judges_all && is_judged;
         }
     }
@@ -142,57 +102,134 @@ fn meant(text: &[u8]) -> &[u8]
 fn print_entity(
     lines: &mut Vec<u8>,
     entity: &Entity,
-    wanted: &Wanted<'_>,
-    attr: &Option<Attr>,
-    there: &Option<MdsWanted<'_>>,
+    attempt: &Attempt,
+    fs: &FsName,
+    mds: Option<Release>,
     telling: Telling,
 ) -> Result<bool, AllocError>
     ensures { IfOk result (λ is_judged. (line : List ℕ) × (lines.new.items ≡ lines.old.items ++ line)
-        × SaysFor telling wanted.now attr.now there.now entity.now.name entity.now.caps is_judged line) }
+        × SaysFor telling (wanted_by attempt.now fs.now) attempt.now.attr mds entity.now.name entity.now.caps is_judged line) }
 {
-    match there {
-        Some(there) => print_client_by(lines, entity, there, telling),
-        None => print_client(lines, entity, wanted, attr, telling),
+    match mds {
+        Some(release) => print_client_by(
+            lines,
+            entity,
+            &attempt.wanted_there(fs, release),
+            telling,
+        ),
+        None => print_client(lines, entity, attempt, fs, telling),
     }
 }
 
-// Appends the line of a client, and says whether it could be judged.
+// Appends the lines of a client, and says whether it could be judged.
 fn print_client(
     lines: &mut Vec<u8>,
     client: &Entity,
-    wanted: &Wanted<'_>,
-    attr: &Option<Attr>,
+    attempt: &Attempt,
+    fs: &FsName,
     telling: Telling,
 ) -> Result<bool, AllocError>
     ensures { IfOk result (λ is_judged. (line : List ℕ) × (lines.new.items ≡ lines.old.items ++ line)
-        × Says telling wanted.now attr.now client.now.name client.now.caps is_judged line) }
+        × Says telling (wanted_by attempt.now fs.now) attempt.now.attr client.now.name client.now.caps is_judged line) }
 {
-    let name = client.name();
+    let alloc = *lines.allocator();
+    let names = attempt.path.names(alloc)?;
+    let wanted = Wanted {
+        fs,
+        path: names.as_slice(),
+        access: attempt.access,
+    };
+    let (name, attr) = (client.name(), &attempt.attr);
     let Some(text) = client.caps() else {
-        let standing = Standing::without_grants();
+        let (standing, others) = (Standing::without_grants(), nothing());
         let answer = ClientAnswer {
             standing: &standing,
-            otherwise: &None,
+            others: &others,
         };
-        print_answer(lines, name, wanted, attr, &answer, telling)?;
+        print_answer(lines, name, &wanted, attr, &answer, telling)?;
         return Ok(true);
     };
-    match read_text(*lines.allocator(), meant(text)) {
+    match read_text(alloc, meant(text)) {
         Ok(Some(grants)) => {
             let standing = wanted.standing(&grants, attr);
-            let other = wanted.answered_otherwise(&grants, attr);
+            let others = attempt.others_in(telling, alloc, fs, text, &standing)?;
             let answer = ClientAnswer {
                 standing: &standing,
-                otherwise: &other,
+                others: &others,
             };
-            print_answer(lines, name, wanted, attr, &answer, telling)?;
+            print_answer(lines, name, &wanted, attr, &answer, telling)?;
             Ok(true)
         }
         Ok(None) => Err(AllocError),
         Err(fault) => {
-            print_fault(lines, name, wanted, attr, &fault, telling)?;
+            print_fault(lines, name, &wanted, attr, &fault, telling)?;
             Ok(false)
         }
+    }
+}
+
+impl Attempt {
+    // What releases answer otherwise than by this standing, where it is told.
+    fn others_in(
+        &self,
+        telling: Telling,
+        alloc: Global,
+        fs: &FsName,
+        text: &[u8],
+        standing: &Standing,
+    ) -> Result<Others, AllocError>
+        ensures { IfOk result (λ others. others ≡ others_in telling (wanted_by self.now fs.now) self.now.attr text.now standing.now) }
+    {
+        match telling {
+            Telling::Line => Ok(nothing()),
+            Telling::More | Telling::Object => self.others(alloc, fs, text, standing),
+        }
+    }
+
+    fn others(
+        &self,
+        alloc: Global,
+        fs: &FsName,
+        text: &[u8],
+        standing: &Standing,
+    ) -> Result<Others, AllocError>
+        ensures { IfOk result (λ others. others ≡ others_to (wanted_by self.now fs.now) self.now.attr text.now standing.now) }
+    {
+        Ok(Others {
+            pacific: self
+                .wanted_there(fs, Release::Pacific)
+                .beside(alloc, text, standing)?,
+            reef: self
+                .wanted_there(fs, Release::Reef)
+                .beside(alloc, text, standing)?,
+            tentacle: self
+                .wanted_there(fs, Release::Tentacle)
+                .beside(alloc, text, standing)?,
+        })
+    }
+
+    // The same in a cluster of a release.
+    fn wanted_there<'a>(&'a self, fs: &'a FsName, release: Release) -> MdsWanted<'a>
+        ensures { result ≡ wanted_there (wanted_by self.now fs.now) self.now.attr release }
+    {
+        MdsWanted {
+            release,
+            fs,
+            path: &self.path,
+            access: self.access,
+            known: &self.attr,
+        }
+    }
+}
+
+// Where no release answers otherwise.
+fn nothing() -> Others
+    ensures { result ≡ nothing }
+{
+    Others {
+        pacific: None,
+        reef: None,
+        tentacle: None,
     }
 }
 
@@ -206,17 +243,17 @@ fn print_answer(
     telling: Telling,
 ) -> Result<(), AllocError>
     ensures { OnOk result (lines.new.items ≡ lines.old.items
-        ++ standing_in telling client.now wanted.now attr.now answer.now.standing.now answer.now.otherwise.now) }
+        ++ standing_in telling client.now wanted.now attr.now answer.now.standing.now answer.now.others.now) }
 {
     let standing = answer.standing;
-    let other = answer.otherwise;
+    let others = answer.others;
     match telling {
         Telling::Line => print_standing(lines, client, wanted.access, wanted.path, standing),
         Telling::More => {
             print_standing(lines, client, wanted.access, wanted.path, standing)?;
-            print_standing_otherwise(lines, client, other)
+            print_standing_others(lines, client, others)
         }
-        Telling::Object => print_standing_object(lines, client, wanted, attr, standing, other),
+        Telling::Object => print_standing_object(lines, client, wanted, attr, standing, others),
     }
 }
 

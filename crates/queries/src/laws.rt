@@ -11,8 +11,8 @@ pub fn one_text_for_what_is_found()
 {}
 
 /// What `who` prints of clients by the rules of this server, if not objects, is one line after the other, each of a client: what is said to
-/// what is asked, what is wrong with its grants, or where the MDS of Ceph 16 answers otherwise. Where other things are said, or of other
-/// clients, other lines are printed; so no name can forge an answer.
+/// what is asked, what is wrong with its grants, or where releases answer otherwise. Where other things are said, or of other clients, other
+/// lines are printed; so no name can forge an answer.
 pub fn one_text_for_an_answer()
     ensures things { EachHasItsLines }
     ensures one_text { OneText }

@@ -1,6 +1,6 @@
 //! Questions about the grants of a CephFS client: whether they let a caller make an access to an inode, by the rules of this server or by
-//! those of the MDS of a release, how two texts of grants differ, what is found in one, and what the checks in the log of an MDS of Ceph 16
-//! asked. What grants are is said by "CephFS client capabilities" in the Ceph documentation.
+//! those of the MDS of a release, how two texts of grants differ, what is found in one, and what the checks in the log of an MDS asked.
+//! What grants are is said by "CephFS client capabilities" in the Ceph documentation.
 //!
 //! A question is read from the values of options, each as the bytes that stand on a command line, and is answered in lines.
 //! What reads a command line takes text, so bytes are spelled as text here, and spelled back.

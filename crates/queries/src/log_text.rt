@@ -271,7 +271,15 @@ fn print_check(
     let has_path = given.has_path();
     match Question::read(alloc, &values) {
         Ok(question) => {
-            let is_judged = print_answers(reported, number, has_path, question, asked.as_slice())?;
+            let asked = asked.as_slice();
+            let is_judged = print_answers(
+                reported,
+                number,
+                has_path,
+                check.grants,
+                question,
+                asked,
+            )?;
             Ok(is_judged)
         }
         Err(fault) => {
@@ -290,22 +298,23 @@ fn print_unknown(reported: &mut Vec<u8>, number: u64, mask: &[u8]) -> Result<(),
     Ok(reported.push(b'\n')?)
 }
 
-// The answers to the question, by each of these accesses in the place of its own; and whether each is one, which it may not be where its path
-// is not known.
+// The answers to the question, whose grants were read in this text, by each of these accesses in the place of its own; and whether each is
+// one, which it may not be where its path is not known.
 fn print_answers(
     reported: &mut Vec<u8>,
     number: u64,
     has_path: bool,
+    grants: &[u8],
     mut question: Question,
     accesses: &[Access],
 ) -> Result<bool, AllocError>
-    ensures printed { OnOk result (reported.new.items ≡ reported.old.items ++ flat_map (said_line has_path number question) accesses.now) }
+    ensures printed { OnOk result (reported.new.items ≡ reported.old.items ++ flat_map (said_line has_path number grants.now question) accesses.now) }
     ensures judged { IfOk result (λ judged. judged ≡ list_all (is_answer has_path question) accesses.now) }
 {
     let mut is_judged = true;
     for access in accesses {
         question.access = *access;
-        let is_answer = print_said(reported, number, has_path, &question)?;
+        let is_answer = print_said(reported, number, has_path, grants, &question)?;
         is_judged &= is_answer;
     }
     Ok(is_judged)
@@ -315,23 +324,29 @@ fn print_said(
     reported: &mut Vec<u8>,
     number: u64,
     has_path: bool,
+    grants: &[u8],
     question: &Question,
 ) -> Result<bool, AllocError>
-    ensures printed { OnOk result (reported.new.items ≡ reported.old.items ++ said_line has_path number question.now question.now.access) }
+    ensures printed { OnOk result (reported.new.items ≡ reported.old.items ++ said_line has_path number grants.now question.now question.now.access) }
     ensures judged { IfOk result (λ judged. judged ≡ is_answer has_path question.now question.now.access) }
 {
     if has_path {
-        print_answer(reported, number, question)?;
+        print_answer(reported, number, grants, question)?;
         return Ok(true);
     }
     print_pathless(reported, number, question)
 }
 
-fn print_answer(reported: &mut Vec<u8>, number: u64, question: &Question) -> Result<(), AllocError>
-    ensures { OnOk result (reported.new.items ≡ reported.old.items ++ answer_lines number question.now question.now.access) }
+fn print_answer(
+    reported: &mut Vec<u8>,
+    number: u64,
+    grants: &[u8],
+    question: &Question,
+) -> Result<(), AllocError>
+    ensures { OnOk result (reported.new.items ≡ reported.old.items ++ answer_lines number grants.now question.now question.now.access) }
 {
     print(reported, format_args!("{number}: "))?;
-    let lines = question.full_answer(*reported.allocator())?;
+    let lines = question.remarked_answer(*reported.allocator(), grants)?;
     reported.extend_from_slice(lines.as_slice())
 }
 

@@ -1,11 +1,11 @@
 //! What the MDS of a release says to what values ask.
 ghost use Rattle.std.specs.Prelude.{◌≡◌, IfErr, IfOk};
-ghost use Rattle.queries.specs.Mds.{IsMdsFault, MdsReads, changes_attributes, mounts};
+ghost use Rattle.queries.specs.Mds.{IsMdsFault, MdsReads, mounts};
 
 use crate::question::Asking;
-use capgrant::Access;
 use release_rules::{
-    Asked, Grant, Grants, Question, Release, Verdict, client_refuses, mds_verdict, read_grants,
+    Asked, Grant, Grants, Question, Release, Verdict, changes_attributes, client_refuses,
+    mds_verdict, read_grants,
 };
 use std::alloc::{AllocError, Global};
 use std::fmt;
@@ -65,18 +65,6 @@ impl Drop for MdsAnswer {
             verdict: _,
             refused: _,
         } = self;
-    }
-}
-
-impl MdsAnswer {
-    ghost use Rattle.std.specs.Prelude.{◌≡◌};
-    ghost use Rattle.queries.specs.Mds.{is_allowed};
-
-    /// Whether the MDS allows it, wherever the client is.
-    pub fn is_allowed(&self) -> bool
-        ensures { result ≡ is_allowed self.now.verdict }
-    {
-        matches!(self.verdict, Verdict::Allowed { .. })
     }
 }
 
@@ -185,11 +173,4 @@ fn mounts(verdict: &Verdict) -> bool
     ensures { result ≡ mounts verdict.now }
 {
     !matches!(verdict, Verdict::CannotMount)
-}
-
-// Whether the access changes attributes, which a client checks before it asks.
-fn changes_attributes(access: Access) -> bool
-    ensures { result ≡ changes_attributes access }
-{
-    !matches!(access, Access::Read | Access::SetVxattr | Access::Snapshot)
 }

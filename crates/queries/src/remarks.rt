@@ -2,30 +2,15 @@
 
 use crate::question::Question;
 use capgrant::Verdict;
-use policy_analysis::{answered_otherwise, left_to_client};
+use policy_analysis::left_to_client;
 use release_rules::{Asked, Others, answers_beside};
 use std::alloc::{AllocError, Global};
-use texts::{answer_object, beside_lines, remarked_lines};
+use texts::{answer_object, beside_lines};
 
 impl Question {
     ghost use Rattle.std.specs.Prelude.{◌≡◌, IfOk, map};
     ghost use Rattle.release_rules.specs.Beside.{others_of};
-    ghost use Rattle.queries.specs.Remarks.{asked_of, full_text, mds_asked, remarked_answer, remarked_object};
-
-    /// The line that answers the question, with the path in double quotes where it has to be, and behind it lines for what the grant
-    /// that allows leaves to the client, and for where the MDS of Ceph 16 answers otherwise. Each ends in a line feed. Only memory
-    /// can be missing.
-    pub fn full_answer(&self, alloc: Global) -> Result<Vec<u8>, AllocError>
-        ensures { IfOk result (λ lines. lines.items ≡ full_text self.now) }
-    {
-        let names = self.path.names(alloc)?;
-        let names = names.as_slice();
-        let verdict = self.judge(names);
-        let asked = self.asked(names);
-        let left = left_to_client(&asked, &self.grants);
-        let other = answered_otherwise(&asked, &self.grants);
-        remarked_lines(alloc, &asked, &verdict, left, &other)
-    }
+    ghost use Rattle.queries.specs.Remarks.{asked_of, mds_asked, remarked_answer, remarked_object};
 
     /// The line that answers the question, with the path in double quotes where it has to be, and behind it lines for what the grant
     /// that allows leaves to the client, and for where the MDS of a release answers otherwise by the text that the grants were read in.

@@ -3,3 +3,4 @@ pub mod Slashes
 pub mod Lists
 pub mod Numbers
 pub mod Loops
+pub mod FewRead

@@ -38,6 +38,11 @@ why_by_mode SetVxattr = AttributeByFlag
 why_by_mode Chmod = ModeByBits
 why_by_mode access = GroupsInOrder
 
+-- why one allows there that squashes root here: whom it allows to set an attribute, or another than root, whom its uid names here
+abbrev pub why_squashed : Access → Reason
+why_squashed SetVxattr = AttributeByFlag
+why_squashed access = ZeroUid
+
 -- why a grant allows there that fails here by this rule, by whether its uid names nobody there
 abbrev pub why_allowed : Access → Bool → Option OwnRule → Reason
 why_allowed access nobody (Some own.FsName) = OtherFileSystem
@@ -45,7 +50,7 @@ why_allowed access nobody (Some own.Uid) = ZeroUid
 why_allowed access nobody (Some own.Gids) = ZeroUid
 why_allowed access nobody (Some own.NotOwnGroup) = ZeroUid
 why_allowed access nobody (Some own.NoWrite) = AttributeByFlag
-why_allowed access nobody (Some own.RootSquash) = AttributeByFlag
+why_allowed access nobody (Some own.RootSquash) = why_squashed access
 why_allowed access nobody (Some own.NotOwner) = if nobody then ZeroUid else ModeByBits
 why_allowed access nobody (Some own.ModeBits) = if nobody then ZeroUid else why_by_mode access
 why_allowed access nobody rule = OtherText
@@ -60,12 +65,19 @@ why_denied access rule = OtherText
 
 -- ---- where
 
+-- what is said where the grant of this number is the first that allows here, and the MDS denies by these rules
+abbrev pub denied_there : Access → ℕ → List Rule → Otherwise
+denied_there access number rules = record { allows = false; grant = number; reason = why_denied access (slice_get rules (number - 1)) }
+
+-- where it is the first of these grants that allows there, and this server denies by these rules
+abbrev pub allowed_there : Switches → List Grant → Access → ℕ → List OwnRule → Otherwise
+allowed_there switches grants access number rules =
+    record { allows = true; grant = number; reason = why_allowed access (names_nobody switches (slice_get grants (number - 1))) (slice_get rules (number - 1)) }
+
 -- what is said beside this server's answer, by these grants and what the MDS says: something where one of the two allows and the other denies
 abbrev pub beside : Switches → List Grant → Access → Answer → Verdict → Option Otherwise
-beside switches grants access (here.Allowed number) (mds.Denied rules) =
-    Some (record { allows = false; grant = number; reason = why_denied access (slice_get rules (number - 1)) })
-beside switches grants access (here.Denied rules) (mds.Allowed number) =
-    Some (record { allows = true; grant = number; reason = why_allowed access (names_nobody switches (slice_get grants (number - 1))) (slice_get rules (number - 1)) })
+beside switches grants access (here.Allowed number) (mds.Denied rules) = Some (denied_there access number rules)
+beside switches grants access (here.Denied rules) (mds.Allowed number) = Some (allowed_there switches grants access number rules)
 beside switches grants access answer verdict = None
 
 -- by what the release reads: a client whose grants it does not read comes to ask nothing

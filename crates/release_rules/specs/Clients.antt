@@ -1,10 +1,19 @@
 -- The check that clients make themselves before they ask the MDS to change the attributes of an inode.
-use Rattle.std.specs.Prelude.{ℕ, ◌+◌, Bool, not, ◌&&◌, ◌||◌, Option, Some, None, List, [], ◌∷◌, if◌then◌else◌}
+use Rattle.std.specs.Prelude.{ℕ, ◌+◌, Bool, true, false, not, ◌&&◌, ◌||◌, Option, Some, None, List, [], ◌∷◌, if◌then◌else◌}
+use Rattle.capgrant.specs.declared.access.Access.{Access}
+use Rattle.capgrant.specs.declared.access.Access.TheVariants.{Read, SetVxattr, Snapshot}
 use Rattle.release_rules.specs.declared.grant.Grant.{Grant}
 use Rattle.release_rules.specs.declared.release.Switches.{Switches}
 use Rattle.release_rules.specs.Failing.{fails_fsname, fails_gids, fails_path, fails_uid, is_root}
 use Rattle.release_rules.specs.Flags.{has_w}
 use Rattle.release_rules.specs.Question.{Question}
+
+-- the access changes attributes, as a client checks it before it asks; to write may be to change the size or the times
+abbrev pub changes_attributes : Access → Bool
+changes_attributes Read = false
+changes_attributes SetVxattr = false
+changes_attributes Snapshot = false
+changes_attributes access = true
 
 -- the grant is for the caller and the inode. A client does not look at the network.
 unfoldable pub is_for : Switches → Question → Grant → Bool

@@ -1,5 +1,5 @@
 -- What an MDS says to a question, by all grants of a client.
-use Rattle.std.specs.Prelude.{ℕ, ◌+◌, Bool, not, ◌&&◌, ◌||◌, ◌==◌, Option, Some, None, is_none, List, length, position, filter_map, if◌then◌else◌}
+use Rattle.std.specs.Prelude.{ℕ, ◌+◌, Bool, true, false, not, ◌&&◌, ◌||◌, ◌==◌, Option, Some, None, is_none, List, length, position, filter_map, if◌then◌else◌}
 use Rattle.std.specs.List.{list_any}
 use Rattle.capgrant.specs.Failing.{is_some_and}
 use Rattle.release_rules.specs.declared.grant.Grant.{Grant}
@@ -61,3 +61,8 @@ verdict_of switches q grants =
     if may_mount switches q.fs grants
     then verdict_at (position (allows switches q) grants) (position (may_allow switches q) grants) (first_failures switches q grants)
     else CannotMount
+
+-- some grant allows it, wherever the client is
+abbrev pub is_allowed : Verdict → Bool
+is_allowed (Allowed number) = true
+is_allowed verdict = false

@@ -1,6 +1,7 @@
 //! Where the MDS of a release answers otherwise than this server, and why.
 ghost use Rattle.std.specs.Prelude.{◌≡◌, slice_get, IfOk};
-ghost use Rattle.release_rules.specs.Beside.{beside, names_nobody, other_of, others_of, why_allowed, why_by_mode, why_denied};
+ghost use Rattle.release_rules.specs.Beside.{allowed_there, beside, denied_there, names_nobody, other_of, others_of, why_allowed, why_by_mode};
+ghost use Rattle.release_rules.specs.Beside.{why_denied, why_squashed};
 
 use crate::grant::Grant;
 use crate::judging::mds_verdict;
@@ -108,26 +109,46 @@ fn beside(
 {
     match (answer, verdict) {
         (capgrant::Verdict::Allowed { grant }, Verdict::Denied { rules }) => {
-            let number = *grant as usize;
-            let rule = rules.as_slice().get(number.saturating_sub(1)).copied();
-            Some(Otherwise {
-                allows: false,
-                grant: number,
-                reason: why_denied(access, rule),
-            })
+            Some(denied_there(access, *grant as usize, rules.as_slice()))
         }
         (capgrant::Verdict::Denied { rules }, Verdict::Allowed { grant }) => {
-            let number = *grant;
-            let place = number.saturating_sub(1);
-            let rule = rules.as_slice().get(place).copied();
-            let nobody = names_nobody(switches, grants, place);
-            Some(Otherwise {
-                allows: true,
-                grant: number,
-                reason: why_allowed(access, nobody, rule),
-            })
+            let rules = rules.as_slice();
+            Some(allowed_there(switches, grants, access, *grant, rules))
         }
         _ => None,
+    }
+}
+
+/// What is said where the grant of this number, from 1, is the first that allows here, and the MDS denies by these rules, one for each grant.
+pub fn denied_there(access: Access, number: usize, rules: &[Rule]) -> Otherwise
+    ensures { result ≡ denied_there access number rules.now }
+{
+    let rule = rules.get(number.saturating_sub(1)).copied();
+    Otherwise {
+        allows: false,
+        grant: number,
+        reason: why_denied(access, rule),
+    }
+}
+
+/// What is said where the grant of this number, from 1, is the first of these that allows there, and this server denies by these rules, one for
+/// each grant.
+pub fn allowed_there(
+    switches: Switches,
+    grants: &[Grant],
+    access: Access,
+    number: usize,
+    rules: &[capgrant::Rule],
+) -> Otherwise
+    ensures { result ≡ allowed_there switches grants.now access number rules.now }
+{
+    let place = number.saturating_sub(1);
+    let rule = rules.get(place).copied();
+    let nobody = names_nobody(switches, grants, place);
+    Otherwise {
+        allows: true,
+        grant: number,
+        reason: why_allowed(access, nobody, rule),
     }
 }
 
@@ -151,11 +172,22 @@ fn why_allowed(access: Access, nobody: bool, rule: Option<capgrant::Rule>) -> Re
     match rule {
         capgrant::Rule::FsName => Reason::OtherFileSystem,
         capgrant::Rule::Uid | capgrant::Rule::Gids | capgrant::Rule::NotOwnGroup => Reason::ZeroUid,
-        capgrant::Rule::NoWrite | capgrant::Rule::RootSquash => Reason::AttributeByFlag,
+        capgrant::Rule::NoWrite => Reason::AttributeByFlag,
+        capgrant::Rule::RootSquash => why_squashed(access),
         capgrant::Rule::NotOwner if !nobody => Reason::ModeByBits,
         capgrant::Rule::ModeBits if !nobody => why_by_mode(access),
         capgrant::Rule::NotOwner | capgrant::Rule::ModeBits => Reason::ZeroUid,
         capgrant::Rule::Path | capgrant::Rule::NoP | capgrant::Rule::NoS => Reason::OtherText,
+    }
+}
+
+// Why it does that squashes root.
+fn why_squashed(access: Access) -> Reason
+    ensures { result ≡ why_squashed access }
+{
+    match access {
+        Access::SetVxattr => Reason::AttributeByFlag,
+        _ => Reason::ZeroUid,
     }
 }
 

@@ -1,13 +1,14 @@
 //! What the grants of a client let it do.
 ghost use Rattle.std.specs.Prelude.{◌≡◌, IfOk, position};
 ghost use Rattle.release_rules.specs.Verdicts.{allows, first_failures, is_for_everything, lets_mount, may_allow, may_mount, verdict_of};
-ghost use Rattle.release_rules.specs.Clients.{client_refuses, decided};
+ghost use Rattle.release_rules.specs.Clients.{changes_attributes, client_refuses, decided};
 
 use crate::grant::Grant;
 use crate::paths::without_first_slashes;
 use crate::question::{Question, is_for_other_fs, user_of};
 use crate::release::Switches;
 use crate::verdict::{Rules, Verdict};
+use capgrant::Access;
 use capspec::FsName;
 use std::alloc::{AllocError, Global};
 
@@ -104,6 +105,14 @@ fn first_failures(
         rules.add(question.first_failing(switches, grant))?;
     }
     Ok(rules)
+}
+
+/// Whether an access changes attributes as a client sees it, which looks at its grants before it asks for such a one: to write may be to change the
+/// size or the times.
+pub fn changes_attributes(access: Access) -> bool
+    ensures { result ≡ changes_attributes access }
+{
+    !matches!(access, Access::Read | Access::SetVxattr | Access::Snapshot)
 }
 
 /// The number of the grant, from 1, by which a client of the release refuses its caller to change attributes of the inode (chmod, chown, truncate,

@@ -22,11 +22,11 @@ mod verdict;
 mod writing;
 
 pub use asked::Asked;
-pub use beside::{Others, Otherwise, Reason, answers_beside};
+pub use beside::{Others, Otherwise, Reason, allowed_there, answers_beside, denied_there};
 pub use flags::Flags;
 pub use forms::{NoForm, mds_form};
 pub use grant::{GidList, Grant, Grants, Text};
-pub use judging::{client_refuses, is_for_everything, may_mount, mds_verdict};
+pub use judging::{changes_attributes, client_refuses, is_for_everything, may_mount, mds_verdict};
 pub use network::{read_address, writes_network};
 pub use paths::directory_of;
 pub use question::{Question, user_of};

@@ -77,6 +77,18 @@ pub enum Verdict {
     },
 }
 
+impl Verdict {
+    ghost use Rattle.std.specs.Prelude.{◌≡◌};
+    ghost use Rattle.release_rules.specs.Verdicts.{is_allowed};
+
+    /// Whether the MDS allows it, wherever the client is.
+    pub fn is_allowed(&self) -> bool
+        ensures { result ≡ is_allowed self.now }
+    {
+        matches!(self, Verdict::Allowed { .. })
+    }
+}
+
 // By hand, so that whoever lets one go has one call to prove.
 impl Drop for Verdict {
     fn drop(self) {

@@ -16,13 +16,14 @@ use Rattle.release_rules.specs.declared.beside.Reason.{Reason}
 use Rattle.release_rules.specs.declared.beside.Reason.TheVariants.{AttributeByFlag, GroupsInOrder, LargeUid, ModeByBits, OtherFileSystem, OtherText}
 use Rattle.release_rules.specs.declared.beside.Reason.TheVariants.{PathAsText, ZeroUid}
 use Rattle.texts.specs.Explaining.{path_text}
+use Rattle.texts.specs.Lines.{answer_line}
 use Rattle.texts.specs.Mds.{beside_text, others_lines, reason_text, said, said_line, said_word}
-use Rattle.texts.specs.MdsTold.{AreBeside, IsCounted}
+use Rattle.texts.specs.MdsTold.{AreBeside, AreCounted, IsCounted}
 use Rattle.texts.specs.Remarked.{AreLeftAlike}
 use Rattle.texts.specs.Remarks.{left_line}
 use Rattle.texts.proofs.Answered.{number_and, one_answer_to}
 use Rattle.texts.proofs.Quoted.{clash, first_byte}
-use Rattle.texts.proofs.Remarked.{in_lines, one_left}
+use Rattle.texts.proofs.Remarked.{IsOther, one_left}
 
 -- ---- what is said of one release
 
@@ -86,7 +87,7 @@ one_alone (Some a) (Some b) small also same = ap Some (one_said a b [] [] small 
 -- ---- lines
 
 -- the releases that a line names
-data Named : Type 0 where
+pub data Named : Type 0 where
   each : Named
   first_two : Named
   last_two : Named
@@ -123,19 +124,23 @@ names_it eighteen false s = refl
 names_it twenty true s = refl
 names_it twenty false s = refl
 
-abbrev Line : Type 0
+abbrev pub Line : Type 0
 Line = Named × Otherwise
 
-abbrev line_text : Line → List ℕ
-line_text l = codes "the MDS of Ceph " ++ (named_text l.0 ++ said (Some l.1))
+abbrev pub bare_text : Line → List ℕ
+bare_text l = codes "the MDS of Ceph " ++ (named_text l.0 ++ said (Some l.1))
+
+-- behind a front
+abbrev pub line_text : List ℕ → Line → List ℕ
+line_text front l = front ++ bare_text l
 
 named_in : (n : Named) (o : Otherwise) (s : List ℕ) → named_at (named_text n ++ (said (Some o) ++ s)) ≡ n
 named_in n o s = ap (λ (r : List ℕ). named_at (named_text n ++ r)) (in_words o s) ∙ names_it n o.allows (reason_text o.reason ++ behind_reason o.grant s)
 
-in_line : (l : Line) (s : List ℕ) → line_text l ++ s ≡ codes "the MDS of Ceph " ++ (named_text l.0 ++ (said (Some l.1) ++ s))
+in_line : (l : Line) (s : List ℕ) → bare_text l ++ s ≡ codes "the MDS of Ceph " ++ (named_text l.0 ++ (said (Some l.1) ++ s))
 in_line l s = ap (λ (r : List ℕ). codes "the MDS of Ceph " ++ r) (append_assoc (named_text l.0) (said (Some l.1)) s)
 
-one_line : (l m : Line) (s t : List ℕ) → l.1.grant < 2 ^ 64 → m.1.grant < 2 ^ 64 → line_text l ++ s ≡ line_text m ++ t → (l ≡ m) × (s ≡ t)
+pub one_line : (l m : Line) (s t : List ℕ) → l.1.grant < 2 ^ 64 → m.1.grant < 2 ^ 64 → bare_text l ++ s ≡ bare_text m ++ t → (l ≡ m) × (s ≡ t)
 one_line l m s t small also same =
     let behind = append_cancel_left (codes "the MDS of Ceph ") (named_text l.0 ++ (said (Some l.1) ++ s)) (named_text m.0 ++ (said (Some m.1) ++ t)) (sym (in_line l s) ∙ same ∙ in_line m t) in
     let names : l.0 ≡ m.0 = sym (named_in l.0 l.1 s) ∙ ap named_at behind ∙ named_in m.0 m.1 t in
@@ -143,19 +148,22 @@ one_line l m s t small also same =
     let other : l.1 ≡ m.1 = words.0 in
     (λ i. (names i, other i), words.1)
 
-abbrev AreSmall : List Line → Type 0
+abbrev pub AreSmall : List Line → Type 0
 AreSmall [] = Unit {0}
 AreSmall (l ∷ ls) = (l.1.grant < 2 ^ 64) × AreSmall ls
 
-one_list : (ls ms : List Line) → AreSmall ls → AreSmall ms → flat_map line_text ls ≡ flat_map line_text ms → ls ≡ ms
-one_list [] [] small also same = refl
-one_list [] (m ∷ ms) small also same = clash 0 116 (omega arith) (ap first_byte same)
-one_list (l ∷ ls) [] small also same = clash 0 116 (omega arith) (sym (ap first_byte same))
-one_list (l ∷ ls) (m ∷ ms) small also same =
-    let both = one_line l m (flat_map line_text ls) (flat_map line_text ms) small.0 also.0 same in
+-- what follows begins as no such line does
+one_list : (ls ms : List Line) (s t : List ℕ) → AreSmall ls → AreSmall ms → IsOther s → IsOther t → flat_map bare_text ls ++ s ≡ flat_map bare_text ms ++ t → (ls ≡ ms) × (s ≡ t)
+one_list [] [] s t small also low too same = (refl, same)
+one_list [] (m ∷ ms) s t small also low too same = absurd (omega (arith, low, ap first_byte same))
+one_list (l ∷ ls) [] s t small also low too same = absurd (omega (arith, too, ap first_byte same))
+one_list (l ∷ ls) (m ∷ ms) s t small also low too same =
+    let both = one_line l m (flat_map bare_text ls ++ s) (flat_map bare_text ms ++ t) small.0 also.0
+    (sym (append_assoc (bare_text l) (flat_map bare_text ls) s) ∙ same ∙ append_assoc (bare_text m) (flat_map bare_text ms) t) in
+    let rest = one_list ls ms s t small.1 also.1 low too both.1 in
     let here : l ≡ m = both.0 in
-    let more : ls ≡ ms = one_list ls ms small.1 also.1 both.1 in
-    λ i. here i ∷ more i
+    let more : ls ≡ ms = rest.0 in
+    (λ i. here i ∷ more i, rest.1)
 
 -- ---- the lines of three releases
 
@@ -170,34 +178,37 @@ lines_by true false x y z = line_if first_two x ++ line_if twenty z
 lines_by false true x y z = line_if sixteen x ++ line_if last_two y
 lines_by false false x y z = line_if sixteen x ++ (line_if eighteen y ++ line_if twenty z)
 
-abbrev text_by : Bool → Bool → List ℕ → List ℕ → List ℕ → List ℕ
-text_by one other x y z =
-    if one then (if other then said_line (codes "16, 18 and 20") x else said_line (codes "16 and 18") x ++ said_line (codes "20") z)
-    else said_line (codes "16") x ++ (if other then said_line (codes "18 and 20") y else said_line (codes "18") y ++ said_line (codes "20") z)
-
 some_text : (byte : ℕ) (more text : List ℕ) → (if length (byte ∷ more) == 0 then [] else text) ≡ text
 some_text byte more text = ap (λ (none : Bool). if none then [] else text) (ne_eqb (length (byte ∷ more)) 0 (λ (e : suc (length more) ≡ 0). omega (arith, e)))
 
-some_words : (n : Named) (allows : Bool) (rest : List ℕ) → said_line (named_text n) (said_word allows ++ rest) ≡ codes "the MDS of Ceph " ++ (named_text n ++ (said_word allows ++ rest))
-some_words n true rest = some_text 32 (drop 1 (said_word true) ++ rest) (codes "the MDS of Ceph " ++ (named_text n ++ (said_word true ++ rest)))
-some_words n false rest = some_text 32 (drop 1 (said_word false) ++ rest) (codes "the MDS of Ceph " ++ (named_text n ++ (said_word false ++ rest)))
+module _ (front : List ℕ) where
+  abbrev text_by : Bool → Bool → List ℕ → List ℕ → List ℕ → List ℕ
+  text_by one other x y z =
+      if one then (if other then said_line front (codes "16, 18 and 20") x else said_line front (codes "16 and 18") x ++ said_line front (codes "20") z)
+      else said_line front (codes "16") x ++ (if other then said_line front (codes "18 and 20") y else said_line front (codes "18") y ++ said_line front (codes "20") z)
 
-line_is : (n : Named) (x : Option Otherwise) → said_line (named_text n) (said x) ≡ flat_map line_text (line_if n x)
-line_is n None = refl
-line_is n (Some o) = some_words n o.allows (reason_text o.reason ++ (codes " (grant " ++ (decimal o.grant ++ codes ")\n"))) ∙ sym (append-nil (line_text (n, o)))
+  some_words : (n : Named) (allows : Bool) (rest : List ℕ) → said_line front (named_text n) (said_word allows ++ rest) ≡ front ++ (codes "the MDS of Ceph " ++ (named_text n ++ (said_word allows ++ rest)))
+  some_words n true rest = some_text 32 (drop 1 (said_word true) ++ rest) (front ++ (codes "the MDS of Ceph " ++ (named_text n ++ (said_word true ++ rest))))
+  some_words n false rest = some_text 32 (drop 1 (said_word false) ++ rest) (front ++ (codes "the MDS of Ceph " ++ (named_text n ++ (said_word false ++ rest))))
 
-both_are : (m n : Named) (x y : Option Otherwise) → said_line (named_text m) (said x) ++ said_line (named_text n) (said y) ≡ flat_map line_text (line_if m x ++ line_if n y)
-both_are m n x y =
-    ap (λ (r : List ℕ). r ++ said_line (named_text n) (said y)) (line_is m x) ∙ ap (λ (r : List ℕ). flat_map line_text (line_if m x) ++ r) (line_is n y) ∙ sym (flat_map-append line_text (line_if m x) (line_if n y))
+  line_is : (n : Named) (x : Option Otherwise) → said_line front (named_text n) (said x) ≡ flat_map (line_text front) (line_if n x)
+  line_is n None = refl
+  line_is n (Some o) = some_words n o.allows (reason_text o.reason ++ (codes " (grant " ++ (decimal o.grant ++ codes ")\n"))) ∙ sym (append-nil (line_text front (n, o)))
 
-lines_are : (one other : Bool) (x y z : Option Otherwise) → text_by one other (said x) (said y) (said z) ≡ flat_map line_text (lines_by one other x y z)
-lines_are true true x y z = line_is each x
-lines_are true false x y z = both_are first_two twenty x z
-lines_are false true x y z = both_are sixteen last_two x y
-lines_are false false x y z =
-    ap (λ (r : List ℕ). r ++ (said_line (codes "18") (said y) ++ said_line (codes "20") (said z))) (line_is sixteen x)
-    ∙ ap (λ (r : List ℕ). flat_map line_text (line_if sixteen x) ++ r) (both_are eighteen twenty y z)
-    ∙ sym (flat_map-append line_text (line_if sixteen x) (line_if eighteen y ++ line_if twenty z))
+  both_are : (m n : Named) (x y : Option Otherwise) → said_line front (named_text m) (said x) ++ said_line front (named_text n) (said y) ≡ flat_map (line_text front) (line_if m x ++ line_if n y)
+  both_are m n x y =
+      ap (λ (r : List ℕ). r ++ said_line front (named_text n) (said y)) (line_is m x)
+      ∙ ap (λ (r : List ℕ). flat_map (line_text front) (line_if m x) ++ r) (line_is n y)
+      ∙ sym (flat_map-append (line_text front) (line_if m x) (line_if n y))
+
+  lines_are : (one other : Bool) (x y z : Option Otherwise) → text_by one other (said x) (said y) (said z) ≡ flat_map (line_text front) (lines_by one other x y z)
+  lines_are true true x y z = line_is each x
+  lines_are true false x y z = both_are first_two twenty x z
+  lines_are false true x y z = both_are sixteen last_two x y
+  lines_are false false x y z =
+      ap (λ (r : List ℕ). r ++ (said_line front (codes "18") (said y) ++ said_line front (codes "20") (said z))) (line_is sixteen x)
+      ∙ ap (λ (r : List ℕ). flat_map (line_text front) (line_if sixteen x) ++ r) (both_are eighteen twenty y z)
+      ∙ sym (flat_map-append (line_text front) (line_if sixteen x) (line_if eighteen y ++ line_if twenty z))
 
 small_if : (n : Named) (x : Option Otherwise) (ls : List Line) → IsCounted x → AreSmall ls → AreSmall (line_if n x ++ ls)
 small_if n None ls small rest = rest
@@ -283,24 +294,22 @@ tells false false x y z first second = by_each x y z
 same_said : (x y : Option Otherwise) → IsCounted x → IsCounted y → bytes_eq (said x) (said y) ≡ true → x ≡ y
 same_said x y small also is = one_alone x y small also ((bytes_eq-Decides (said x) (said y)).0 is)
 
-abbrev pub AreCounted : Others → Type 0
-AreCounted o = IsCounted o.pacific × IsCounted o.reef × IsCounted o.tentacle
-
-abbrev lines_of : Others → List Line
+abbrev pub lines_of : Others → List Line
 lines_of o = lines_by (bytes_eq (said o.pacific) (said o.reef)) (bytes_eq (said o.reef) (said o.tentacle)) o.pacific o.reef o.tentacle
 
 lines_tell : (o : Others) → AreCounted o → Tells (lines_of o) o.pacific o.reef o.tentacle
 lines_tell o fit = tells (bytes_eq (said o.pacific) (said o.reef)) (bytes_eq (said o.reef) (said o.tentacle)) o.pacific o.reef o.tentacle (same_said o.pacific o.reef fit.0 fit.1) (same_said o.reef o.tentacle fit.1 fit.2)
 
-pub one_others : (o p : Others) → AreCounted o → AreCounted p → others_lines o ≡ others_lines p → o ≡ p
-one_others o p fit fits same =
-    let first : Bool = bytes_eq (said o.pacific) (said o.reef) in
-    let second : Bool = bytes_eq (said o.reef) (said o.tentacle) in
-    let third : Bool = bytes_eq (said p.pacific) (said p.reef) in
-    let fourth : Bool = bytes_eq (said p.reef) (said p.tentacle) in
-    let lines : lines_of o ≡ lines_of p =
-    one_list (lines_of o) (lines_of p) (are_small first second o.pacific o.reef o.tentacle fit.0 fit.1 fit.2) (are_small third fourth p.pacific p.reef p.tentacle fits.0 fits.1 fits.2)
-    (sym (lines_are first second o.pacific o.reef o.tentacle) ∙ same ∙ lines_are third fourth p.pacific p.reef p.tentacle) in
+pub lines_small : (o : Others) → AreCounted o → AreSmall (lines_of o)
+lines_small o fit = are_small (bytes_eq (said o.pacific) (said o.reef)) (bytes_eq (said o.reef) (said o.tentacle)) o.pacific o.reef o.tentacle fit.0 fit.1 fit.2
+
+-- as one list of lines
+pub in_list : (front : List ℕ) (o : Others) → others_lines front o ≡ flat_map (line_text front) (lines_of o)
+in_list front o = lines_are front (bytes_eq (said o.pacific) (said o.reef)) (bytes_eq (said o.reef) (said o.tentacle)) o.pacific o.reef o.tentacle
+
+-- they tell of each release
+pub same_lines : (o p : Others) → AreCounted o → AreCounted p → lines_of o ≡ lines_of p → o ≡ p
+same_lines o p fit fits lines =
     let here = lines_tell o fit in
     let there = lines_tell p fits in
     let pacific : o.pacific ≡ p.pacific = sym here.first ∙ ap (told_of of_pacific) lines ∙ there.first in
@@ -308,22 +317,44 @@ one_others o p fit fits same =
     let tentacle : o.tentacle ≡ p.tentacle = sym here.third ∙ ap (told_of of_tentacle) lines ∙ there.third in
     λ i. record { pacific = pacific i; reef = reef i; tentacle = tentacle i }
 
--- no line begins as that of what is left to the client
-no_left : (ls : List Line) → first_byte (flat_map line_text ls) ≡ 110 → ⊥
-no_left [] is = clash 0 110 (omega arith) is
-no_left (l ∷ ls) is = clash 110 116 (omega arith) (sym is)
+one_others : (o p : Others) (s t : List ℕ) → AreCounted o → AreCounted p → IsOther s → IsOther t → others_lines [] o ++ s ≡ others_lines [] p ++ t → (o ≡ p) × (s ≡ t)
+one_others o p s t fit fits low too same =
+    let both =
+    one_list (lines_of o) (lines_of p) s t (lines_small o fit) (lines_small p fits) low too
+    (ap (λ (r : List ℕ). r ++ s) (sym (in_list [] o)) ∙ same ∙ ap (λ (r : List ℕ). r ++ t) (in_list [] p)) in
+    (same_lines o p fit fits both.0, both.1)
 
-not_judged : (o : Others) → first_byte (others_lines o) ≡ 110 → ⊥
-not_judged o is =
-    no_left (lines_of o) (sym (ap first_byte (lines_are (bytes_eq (said o.pacific) (said o.reef)) (bytes_eq (said o.reef) (said o.tentacle)) o.pacific o.reef o.tentacle)) ∙ is)
+-- no line begins as that of what is left to the client
+no_left : (ls : List Line) (s : List ℕ) → IsOther s → first_byte (flat_map bare_text ls ++ s) ≡ 110 → ⊥
+no_left [] s low is = omega (arith, low, is)
+no_left (l ∷ ls) s low is = clash 110 116 (omega arith) (sym is)
+
+not_judged : (o : Others) (s : List ℕ) → IsOther s → first_byte (others_lines [] o ++ s) ≡ 110 → ⊥
+not_judged o s low is = no_left (lines_of o) s low (ap (λ (r : List ℕ). first_byte (r ++ s)) (sym (in_list [] o)) ∙ is)
+
+in_full : (q : Question) (v : Verdict) (left : Option ℕ) (others : Others) (s : List ℕ)
+    → beside_text q v left others ++ s ≡ answer_line q.access (path_text q.path) v ++ 10 ∷ (left_line q.attr left ++ (others_lines [] others ++ s))
+in_full q v left others s =
+    let answer : List ℕ = answer_line q.access (path_text q.path) v in
+    append_assoc answer (codes "\n" ++ (left_line q.attr left ++ others_lines [] others)) s
+    ∙ ap (λ (r : List ℕ). answer ++ 10 ∷ r) (append_assoc (left_line q.attr left) (others_lines [] others) s)
+
+-- what the two texts tell
+abbrev pub TellBeside : Question → Question → Verdict → Verdict → Option ℕ → Option ℕ → Others → Others → Type 0
+TellBeside q r v w left also others further = (q.access ≡ r.access) × (path_text q.path ≡ path_text r.path) × (v ≡ w) × AreLeftAlike q.attr left r.attr also × (others ≡ further)
+
+pub one_beside_to : (q r : Question) (v w : Verdict) (left also : Option ℕ) (others further : Others) (s t : List ℕ) → AreBeside q v left others → AreBeside r w also further → IsOther s → IsOther t
+    → beside_text q v left others ++ s ≡ beside_text r w also further ++ t → TellBeside q r v w left also others further × (s ≡ t)
+one_beside_to q r v w left also others further s t p o low too same =
+    let behind : List ℕ = others_lines [] others ++ s in
+    let and_behind : List ℕ = others_lines [] further ++ t in
+    let answer = one_answer_to q.access r.access (path_text q.path) (path_text r.path) v w (left_line q.attr left ++ behind) (left_line r.attr also ++ and_behind) p.access o.access p.grant o.grant
+    (sym (in_full q v left others s) ∙ same ∙ in_full r w also further t) in
+    let client = one_left q.attr r.attr left also behind and_behind (p.owner, p.group, p.mode) (o.owner, o.group, o.mode) p.to_client o.to_client (not_judged others s low) (not_judged further t too) answer.3 in
+    let beside = one_others others further s t (p.pacific, p.reef, p.tentacle) (o.pacific, o.reef, o.tentacle) low too client.1 in
+    ((answer.0, answer.1, answer.2, client.0, beside.0), beside.1)
 
 pub one_beside : (q r : Question) (v w : Verdict) (left also : Option ℕ) (others further : Others) → AreBeside q v left others → AreBeside r w also further
-    → beside_text q v left others ≡ beside_text r w also further
-    → (q.access ≡ r.access) × (path_text q.path ≡ path_text r.path) × (v ≡ w) × AreLeftAlike q.attr left r.attr also × (others ≡ further)
+    → beside_text q v left others ≡ beside_text r w also further → TellBeside q r v w left also others further
 one_beside q r v w left also others further p o same =
-    let behind : List ℕ = others_lines others in
-    let and_behind : List ℕ = others_lines further in
-    let answer = one_answer_to q.access r.access (path_text q.path) (path_text r.path) v w (left_line q.attr left ++ behind) (left_line r.attr also ++ and_behind) p.access o.access p.grant o.grant
-    (sym (in_lines q v left None behind) ∙ same ∙ in_lines r w also None and_behind) in
-    let client = one_left q.attr r.attr left also behind and_behind (p.owner, p.group, p.mode) (o.owner, o.group, o.mode) p.to_client o.to_client (not_judged others) (not_judged further) answer.3 in
-    (answer.0, answer.1, answer.2, client.0, one_others others further (p.pacific, p.reef, p.tentacle) (o.pacific, o.reef, o.tentacle) client.1)
+    (one_beside_to q r v w left also others further [] [] p o (omega arith) (omega arith) (ap (λ (text : List ℕ). text ++ []) same)).0

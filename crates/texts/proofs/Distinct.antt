@@ -13,11 +13,8 @@ use Rattle.capgrant.specs.declared.rule.Rule.{Rule}
 use Rattle.capgrant.specs.Access.{access_word}
 use Rattle.capgrant.specs.Question.{Question}
 use Rattle.capgrant.specs.Rule.{rule_number, rule_word}
-use Rattle.policy_analysis.specs.declared.differences.Difference.{Difference}
-use Rattle.policy_analysis.specs.declared.differences.Difference.TheVariants.{AttributeByFlag, LargeUid, ModeByBits, OtherFileSystem}
-use Rattle.policy_analysis.specs.declared.differences.Otherwise.{Otherwise}
 use Rattle.policy_analysis.specs.declared.witness.Witness.{Witness}
-use Rattle.release_rules.specs.declared.beside.Otherwise.{Otherwise as Other}
+use Rattle.release_rules.specs.declared.beside.Otherwise.{Otherwise}
 use Rattle.release_rules.specs.declared.beside.Others.{Others}
 use Rattle.release_rules.specs.declared.beside.Reason.{Reason}
 use Rattle.release_rules.specs.declared.beside.Reason.TheVariants as reasons
@@ -29,7 +26,7 @@ use Rattle.texts.proofs.Answered as lines
 use Rattle.texts.proofs.Compared.{one_mode}
 use Rattle.texts.proofs.Quoted.{clash}
 use Rattle.texts.specs.Values.{bytes_value, natural, numbers_value, or_null}
-use Rattle.texts.specs.Answers.{AskTheSame, IsAskable, answer_value, difference_value, is_of_access, other_value, otherwise_value, reason_if, reason_word}
+use Rattle.texts.specs.Answers.{AskTheSame, IsAskable, answer_value, is_of_access, other_value, reason_if}
 use Rattle.texts.specs.Answers.{rule_value, verdict_word}
 use Rattle.texts.specs.Changes.{asked_by, change_value}
 use Rattle.texts.proofs.Spelling.{one_spelling}
@@ -132,41 +129,11 @@ one_left None (Some n) same = clash 0 1 (omega arith) (ap some_in same)
 one_left (Some m) None same = clash 0 1 (omega arith) (sym (ap some_in same))
 one_left (Some m) (Some n) same = ap Some (ap number_in same)
 
-abbrev differs_by : Data → Option Difference
-differs_by (string word) =
-    if bytes_eq word (codes "other-file-system") then Some OtherFileSystem
-    else (if bytes_eq word (codes "attribute-by-flag") then Some AttributeByFlag
-    else (if bytes_eq word (codes "mode-by-bits") then Some ModeByBits else Some LargeUid))
-differs_by d = None
-
-names_it : (difference : Option Difference) → differs_by (or_null difference_value difference) ≡ difference
-names_it None = refl
-names_it (Some OtherFileSystem) = refl
-names_it (Some AttributeByFlag) = refl
-names_it (Some ModeByBits) = refl
-names_it (Some LargeUid) = refl
-
-one_difference : (a b : Option Difference) → or_null difference_value a ≡ or_null difference_value b → a ≡ b
-one_difference a b same = sym (names_it a) ∙ ap differs_by same ∙ names_it b
-
 one_word : (a b : Bool) → string (verdict_word a) ≡ string (verdict_word b) → a ≡ b
 one_word true true same = refl
 one_word true false same = clash 97 100 (omega arith) (ap byte_in same)
 one_word false true same = clash 97 100 (omega arith) (sym (ap byte_in same))
 one_word false false same = refl
-
-pub one_otherwise : (a b : Option Otherwise) → or_null otherwise_value a ≡ or_null otherwise_value b → a ≡ b
-one_otherwise None None same = refl
-one_otherwise None (Some b) same = clash 0 1 (omega arith) (ap some_in same)
-one_otherwise (Some a) None same = clash 0 1 (omega arith) (sym (ap some_in same))
-one_otherwise (Some a) (Some b) same =
-    let allows : a.allows ≡ b.allows = one_word a.allows b.allows (ap (value_at (codes "verdict")) same) in
-    let grant : a.grant ≡ b.grant = ap (λ (d : Data). number_in (value_at (codes "grant") d)) same in
-    let by_grant : a.by_grant ≡ b.by_grant = one_difference a.by_grant b.by_grant (ap (value_at (codes "by_grant")) same) in
-    let by_access : a.by_access ≡ b.by_access = one_difference a.by_access b.by_access (ap (value_at (codes "by_access")) same) in
-    λ i. Some (record { allows = allows i; grant = grant i; by_grant = by_grant i; by_access = by_access i })
-
--- by releases
 
 abbrev named : List ℕ → Reason
 named word =
@@ -193,7 +160,7 @@ gives reasons.ModeByBits = refl
 gives reasons.GroupsInOrder = refl
 gives reasons.OtherText = refl
 
-one_other : (a b : Option Other) → or_null other_value a ≡ or_null other_value b → a ≡ b
+pub one_other : (a b : Option Otherwise) → or_null other_value a ≡ or_null other_value b → a ≡ b
 one_other None None same = refl
 one_other None (Some b) same = clash 0 1 (omega arith) (ap some_in same)
 one_other (Some a) None same = clash 0 1 (omega arith) (sym (ap some_in same))

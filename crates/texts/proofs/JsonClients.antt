@@ -4,18 +4,18 @@ use Rattle.std.specs.Prelude.{IfSome, codes}
 use Rattle.serde_json.specs.Data.{Data, null, string}
 use Rattle.capgrant.specs.declared.access.Attr.{Attr}
 use Rattle.capgrant.specs.Access.{access_word}
-use Rattle.policy_analysis.specs.declared.differences.Otherwise.{Otherwise}
 use Rattle.policy_analysis.specs.declared.standing.Standing.{Standing}
 use Rattle.policy_analysis.specs.declared.standing.Standing.TheVariants.{Allowed, Denied, Depends}
 use Rattle.policy_analysis.specs.Callers.{Wanted}
+use Rattle.release_rules.specs.declared.beside.Others.{Others}
 use Rattle.texts.specs.Explaining.{path_text}
 use Rattle.texts.specs.PartTexts.{mode_text}
 use Rattle.texts.proofs.Compared.{one_mode}
 use Rattle.texts.proofs.Quoted.{clash}
 use Rattle.texts.specs.Values.{bytes_value, natural, or_null}
-use Rattle.texts.specs.Answers.{otherwise_value, rules_value}
+use Rattle.texts.specs.Answers.{other_value, rules_value}
 use Rattle.texts.specs.Standings.{AskAlike, IsWanted, standing_value}
-use Rattle.texts.proofs.Distinct.{byte_in, number_in, one_access, one_otherwise, one_row, some_in, text_in, value_at}
+use Rattle.texts.proofs.Distinct.{byte_in, number_in, one_access, one_other, one_row, some_in, text_in, value_at}
 use Rattle.texts.proofs.Spelling.{one_spelling}
 
 -- the words of standings differ in these
@@ -43,7 +43,7 @@ if_known part None = null
 if_known part (Some attr) = part attr
 
 -- what stands at the keys
-record Shows (d : Data) (name : List ℕ) (w : Wanted) (attr : Option Attr) (s : Standing) (other : Option Otherwise) : Type 0 where
+record Shows (d : Data) (name : List ℕ) (w : Wanted) (attr : Option Attr) (s : Standing) (others : Others) : Type 0 where
   client : value_at (codes "client") d ≡ bytes_value name
   access : value_at (codes "access") d ≡ string (access_word w.access)
   path : value_at (codes "path") d ≡ bytes_value (path_text w.path)
@@ -54,15 +54,17 @@ record Shows (d : Data) (name : List ℕ) (w : Wanted) (attr : Option Attr) (s :
   word : value_at (codes "verdict") d ≡ word_of s
   grant : value_at (codes "grant") d ≡ grant_of s
   rules : value_at (codes "rules") d ≡ rules_of s
-  ceph : value_at (codes "ceph16") d ≡ or_null otherwise_value other
+  pacific : value_at (codes "ceph16") d ≡ or_null other_value others.pacific
+  reef : value_at (codes "ceph18") d ≡ or_null other_value others.reef
+  tentacle : value_at (codes "ceph20") d ≡ or_null other_value others.tentacle
 
-shows : (client : List ℕ) (w : Wanted) (attr : Option Attr) (s : Standing) (other : Option Otherwise) → Shows (standing_value client w attr s other) client w attr s other
-shows client w None (Allowed g) other = record { client = refl; access = refl; path = refl; fs = refl; owner = refl; group = refl; mode = refl; word = refl; grant = refl; rules = refl; ceph = refl }
-shows client w None (Depends g) other = record { client = refl; access = refl; path = refl; fs = refl; owner = refl; group = refl; mode = refl; word = refl; grant = refl; rules = refl; ceph = refl }
-shows client w None (Denied rs) other = record { client = refl; access = refl; path = refl; fs = refl; owner = refl; group = refl; mode = refl; word = refl; grant = refl; rules = refl; ceph = refl }
-shows client w (Some a) (Allowed g) other = record { client = refl; access = refl; path = refl; fs = refl; owner = refl; group = refl; mode = refl; word = refl; grant = refl; rules = refl; ceph = refl }
-shows client w (Some a) (Depends g) other = record { client = refl; access = refl; path = refl; fs = refl; owner = refl; group = refl; mode = refl; word = refl; grant = refl; rules = refl; ceph = refl }
-shows client w (Some a) (Denied rs) other = record { client = refl; access = refl; path = refl; fs = refl; owner = refl; group = refl; mode = refl; word = refl; grant = refl; rules = refl; ceph = refl }
+shows : (client : List ℕ) (w : Wanted) (attr : Option Attr) (s : Standing) (others : Others) → Shows (standing_value client w attr s others) client w attr s others
+shows client w None (Allowed g) others = record { client = refl; access = refl; path = refl; fs = refl; owner = refl; group = refl; mode = refl; word = refl; grant = refl; rules = refl; pacific = refl; reef = refl; tentacle = refl }
+shows client w None (Depends g) others = record { client = refl; access = refl; path = refl; fs = refl; owner = refl; group = refl; mode = refl; word = refl; grant = refl; rules = refl; pacific = refl; reef = refl; tentacle = refl }
+shows client w None (Denied rs) others = record { client = refl; access = refl; path = refl; fs = refl; owner = refl; group = refl; mode = refl; word = refl; grant = refl; rules = refl; pacific = refl; reef = refl; tentacle = refl }
+shows client w (Some a) (Allowed g) others = record { client = refl; access = refl; path = refl; fs = refl; owner = refl; group = refl; mode = refl; word = refl; grant = refl; rules = refl; pacific = refl; reef = refl; tentacle = refl }
+shows client w (Some a) (Depends g) others = record { client = refl; access = refl; path = refl; fs = refl; owner = refl; group = refl; mode = refl; word = refl; grant = refl; rules = refl; pacific = refl; reef = refl; tentacle = refl }
+shows client w (Some a) (Denied rs) others = record { client = refl; access = refl; path = refl; fs = refl; owner = refl; group = refl; mode = refl; word = refl; grant = refl; rules = refl; pacific = refl; reef = refl; tentacle = refl }
 
 pub one_known : (a b : Option Attr) → IfSome a (λ known. known.mode < 2 ^ 12) → IfSome b (λ known. known.mode < 2 ^ 12)
     → if_known (λ k. natural k.uid) a ≡ if_known (λ k. natural k.uid) b → if_known (λ k. natural k.gid) a ≡ if_known (λ k. natural k.gid) b → if_known (λ k. string (mode_text k.mode)) a ≡ if_known (λ k. string (mode_text k.mode)) b → a ≡ b
@@ -86,17 +88,20 @@ one_said (Denied rs) (Allowed h) word grant rules = clash 97 100 (omega arith) (
 one_said (Denied rs) (Depends h) word grant rules = clash 110 112 (omega arith) (ap third_in word)
 one_said (Denied rs) (Denied qs) word grant rules = ap Denied (one_row 1 rs qs rules)
 
-pub one_standing : (c d : List ℕ) (w u : Wanted) (a b : Option Attr) (s t : Standing) (other further : Option Otherwise) → IsWanted c w a → IsWanted d u b → standing_value c w a s other ≡ standing_value d u b t further
-    → AskAlike c d w u a b × (s ≡ t) × (other ≡ further)
-one_standing c d w u a b s t other further fit fits same =
-    let p = shows c w a s other in
-    let q : Shows (standing_value c w a s other) d u b t further = subst (λ (v : Data). Shows v d u b t further) (sym same) (shows d u b t further) in
+pub one_standing : (c d : List ℕ) (w u : Wanted) (a b : Option Attr) (s t : Standing) (others further : Others) → IsWanted c w a → IsWanted d u b → standing_value c w a s others ≡ standing_value d u b t further
+    → AskAlike c d w u a b × (s ≡ t) × (others ≡ further)
+one_standing c d w u a b s t others further fit fits same =
+    let p = shows c w a s others in
+    let q : Shows (standing_value c w a s others) d u b t further = subst (λ (v : Data). Shows v d u b t further) (sym same) (shows d u b t further) in
     let client : c ≡ d = one_spelling c d fit.client fits.client (sym p.client ∙ q.client) in
     let access : w.access ≡ u.access = one_access w.access u.access fit.access fits.access (ap text_in (sym p.access ∙ q.access)) in
     let path : path_text w.path ≡ path_text u.path = one_spelling (path_text w.path) (path_text u.path) fit.path fits.path (sym p.path ∙ q.path) in
     let fs : w.fs ≡ u.fs = one_spelling w.fs u.fs fit.fs fits.fs (sym p.fs ∙ q.fs) in
+    let pacific : others.pacific ≡ further.pacific = one_other others.pacific further.pacific (sym p.pacific ∙ q.pacific) in
+    let reef : others.reef ≡ further.reef = one_other others.reef further.reef (sym p.reef ∙ q.reef) in
+    let tentacle : others.tentacle ≡ further.tentacle = one_other others.tentacle further.tentacle (sym p.tentacle ∙ q.tentacle) in
     let known : a ≡ b = one_known a b fit.mode fits.mode (sym p.owner ∙ q.owner) (sym p.group ∙ q.group) (sym p.mode ∙ q.mode) in (
       (client, access, path, fs, known),
       one_said s t (sym p.word ∙ q.word) (sym p.grant ∙ q.grant) (sym p.rules ∙ q.rules),
-      one_otherwise other further (sym p.ceph ∙ q.ceph),
+      (λ i. record { pacific = pacific i; reef = reef i; tentacle = tentacle i }),
     )

@@ -23,16 +23,13 @@ use Rattle.capgrant.specs.Question.{Question, question}
 use Rattle.capgrant.specs.Rule.{rule_number, rule_word}
 use Rattle.texts.specs.Explaining.{path_text}
 use Rattle.texts.specs.PartTexts.{mode_text}
-use Rattle.policy_analysis.specs.declared.differences.Difference.{Difference}
-use Rattle.policy_analysis.specs.declared.differences.Difference.TheVariants.{AttributeByFlag, LargeUid, ModeByBits, OtherFileSystem}
-use Rattle.policy_analysis.specs.declared.differences.Otherwise.{Otherwise}
 use Rattle.policy_analysis.specs.declared.witness.Witness.{Witness}
 use Rattle.policy_analysis.specs.declared.standing.Standing.{Standing}
 use Rattle.policy_analysis.specs.declared.standing.Standing.TheVariants as standings
 use Rattle.policy_analysis.specs.declared.mds_standing.MdsStanding.{MdsStanding}
 use Rattle.policy_analysis.specs.Callers.{Wanted}
 use Rattle.policy_analysis.specs.MdsStanding.{MdsWanted}
-use Rattle.release_rules.specs.declared.beside.Otherwise.{Otherwise as Other}
+use Rattle.release_rules.specs.declared.beside.Otherwise.{Otherwise}
 use Rattle.release_rules.specs.declared.beside.Others.{Others}
 use Rattle.release_rules.specs.declared.beside.Reason.{Reason}
 use Rattle.release_rules.specs.declared.release.Release.{Release}
@@ -47,8 +44,8 @@ use Rattle.texts.specs.declared.table.Piece.TheVariants.{Access, Bytes, Caps, Md
 use Rattle.texts.specs.Pieces.{piece_value, pieces_value}
 use Rattle.texts.proofs.Tables.{Row, member_of}
 use Rattle.texts.specs.Values.{IsPlain, Table, bytes_value, natural, numbers_value, object_of, or_null, with_all}
-use Rattle.texts.specs.Answers.{allowing_table, answer_value, attr_table, caller_table, difference_value, is_of_access, other_value, others_table}
-use Rattle.texts.specs.Answers.{otherwise_table, otherwise_value, place_table, reason_if, reason_word, remarks_table, rule_value, rules_value, verdict_table}
+use Rattle.texts.specs.Answers.{allowing_table, answer_value, attr_table, caller_table, is_of_access, other_value, others_table}
+use Rattle.texts.specs.Answers.{place_table, reason_if, reason_word, remarks_table, rule_value, rules_value, verdict_table}
 use Rattle.texts.specs.Answers.{verdict_word, with_question}
 use Rattle.texts.specs.MdsAnswers.{failures_value, grant_value, mds_rule_value, mds_rules_value, mds_table, mds_value, mds_word}
 use Rattle.texts.specs.Changes.{change_table, change_value, with_witness}
@@ -162,26 +159,11 @@ flat-or_null : {X : Type 0} (n : ℕ) (f : X → Data) → ((x : X) → IsFlat n
 flat-or_null n f each None = (refl, omega arith)
 flat-or_null n f each (Some x) = each x
 
-flat-difference : (difference : Difference) → IsFlat 1 (difference_value difference)
-flat-difference OtherFileSystem = flat-string 1 (codes "other-file-system")
-flat-difference AttributeByFlag = flat-string 1 (codes "attribute-by-flag")
-flat-difference ModeByBits = flat-string 1 (codes "mode-by-bits")
-flat-difference LargeUid = flat-string 1 (codes "large-uid")
-
-flat-otherwise : (other : Otherwise) → IsFlat 2 (otherwise_value other)
-flat-otherwise other =
-    flat-object_of 1
-    ((codes "verdict", string (verdict_word other.allows)) ∷ (codes "grant", natural other.grant) ∷ (codes "by_grant", or_null difference_value other.by_grant) ∷ (codes "by_access", or_null difference_value other.by_access) ∷ [])
-    (flat-string 1 (verdict_word other.allows), (flat-natural 1 other.grant, (flat-or_null 1 difference_value flat-difference other.by_grant, (flat-or_null 1 difference_value flat-difference other.by_access, tt))))
-
-flat-other : (other : Option Otherwise) → AllFlat 2 (otherwise_table other)
-flat-other other = (flat-or_null 2 otherwise_value flat-otherwise other, tt)
-
 flat-reason : (condition : Bool) (reason : Reason) → IsFlat 1 (reason_if condition reason)
 flat-reason true reason = flat-string 1 (reason_word reason)
 flat-reason false reason = (refl, omega arith)
 
-flat-by_release : (other : Other) → IsFlat 2 (other_value other)
+flat-by_release : (other : Otherwise) → IsFlat 2 (other_value other)
 flat-by_release other =
     flat-object_of 1
     ((codes "verdict", string (verdict_word other.allows)) ∷ (codes "grant", natural other.grant)
@@ -274,11 +256,11 @@ flat-standing (standings.Allowed grant) = flat-allowing (codes "allowed") grant
 flat-standing (standings.Depends grant) = flat-allowing (codes "depends") grant
 flat-standing (standings.Denied rules) = (flat-string 2 (codes "denied"), (flat-rules rules, tt))
 
-pub plain-standing : (client : List ℕ) (w : Wanted) (attr : Option Attr) (standing : Standing) (other : Option Otherwise) → IsPlain (standing_value client w attr standing other)
-plain-standing client w attr standing other =
+pub plain-standing : (client : List ℕ) (w : Wanted) (attr : Option Attr) (standing : Standing) (others : Others) → IsPlain (standing_value client w attr standing others)
+plain-standing client w attr standing others =
     let asked = with_client client w attr no_members in
     let judged = with_all (standing_table standing) asked in
-    plain-object (with_all (otherwise_table other) judged) (flat-with_all 2 (otherwise_table other) judged (flat-other other) (flat-with_all 2 (standing_table standing) asked (flat-standing standing) (flat-client client w attr)))
+    plain-object (with_all (others_table others) judged) (flat-with_all 2 (others_table others) judged (flat-others others) (flat-with_all 2 (standing_table standing) asked (flat-standing standing) (flat-client client w attr)))
 
 -- ---- those of clients by a release
 

@@ -13,10 +13,7 @@ use Rattle.capgrant.specs.declared.rule.Rule.{Rule}
 use Rattle.capgrant.specs.Access.{access_word}
 use Rattle.capgrant.specs.Question.{Question}
 use Rattle.capgrant.specs.Rule.{rule_number, rule_word}
-use Rattle.policy_analysis.specs.declared.differences.Difference.{Difference}
-use Rattle.policy_analysis.specs.declared.differences.Difference.TheVariants.{AttributeByFlag, LargeUid, ModeByBits, OtherFileSystem}
-use Rattle.policy_analysis.specs.declared.differences.Otherwise.{Otherwise}
-use Rattle.release_rules.specs.declared.beside.Otherwise.{Otherwise as Other}
+use Rattle.release_rules.specs.declared.beside.Otherwise.{Otherwise}
 use Rattle.release_rules.specs.declared.beside.Others.{Others}
 use Rattle.release_rules.specs.declared.beside.Reason.{Reason}
 use Rattle.release_rules.specs.declared.beside.Reason.TheVariants as reasons
@@ -71,20 +68,6 @@ verdict_table (Denied rules) = (codes "verdict", string (codes "denied")) ∷ (c
 
 -- ---- what is worth a word beside it
 
-abbrev pub difference_value : Difference → Data
-difference_value OtherFileSystem = string (codes "other-file-system")
-difference_value AttributeByFlag = string (codes "attribute-by-flag")
-difference_value ModeByBits = string (codes "mode-by-bits")
-difference_value LargeUid = string (codes "large-uid")
-
--- what the MDS of Ceph 16 answers, by which grant, and why
-abbrev pub otherwise_value : Otherwise → Data
-otherwise_value other = object_of ((codes "verdict", string (verdict_word other.allows)) ∷ (codes "grant", natural other.grant) ∷ (codes "by_grant", or_null difference_value other.by_grant) ∷ (codes "by_access", or_null difference_value other.by_access) ∷ [])
-
--- what that MDS answers, where it is something else
-abbrev pub otherwise_table : Option Otherwise → Table
-otherwise_table other = (codes "ceph16", or_null otherwise_value other) ∷ []
-
 abbrev pub reason_word : Reason → List ℕ
 reason_word reasons.OtherFileSystem = codes "other-file-system"
 reason_word reasons.ZeroUid = codes "zero-uid"
@@ -105,7 +88,7 @@ abbrev pub reason_if : Bool → Reason → Data
 reason_if condition reason = if condition then string (reason_word reason) else null
 
 -- what the MDS of a release answers, by which grant, and why
-abbrev pub other_value : Other → Data
+abbrev pub other_value : Otherwise → Data
 other_value other =
     object_of ((codes "verdict", string (verdict_word other.allows)) ∷ (codes "grant", natural other.grant)
     ∷ (codes "by_grant", reason_if (not (is_of_access other.reason)) other.reason) ∷ (codes "by_access", reason_if (is_of_access other.reason) other.reason) ∷ [])

@@ -15,9 +15,9 @@ use Rattle.release_rules.specs.declared.rule.Rule.{Rule}
 use Rattle.release_rules.specs.declared.verdict.Verdict.{Verdict}
 use Rattle.release_rules.specs.declared.verdict.Verdict.TheVariants.{Allowed, CannotMount, Denied, DependsOnAddress}
 use Rattle.release_rules.specs.Rules.{rule_number, rule_word}
-use Rattle.texts.specs.Explaining.{path_text}
+use Rattle.texts.specs.Explaining.{path_text, verdict_text}
 use Rattle.texts.specs.Quoting.{quoted}
-use Rattle.texts.specs.Remarks.{remarked_text}
+use Rattle.texts.specs.Remarks.{left_line}
 
 -- ---- the answer by a release
 
@@ -77,23 +77,25 @@ abbrev pub said : Option Otherwise → List ℕ
 said None = []
 said (Some other) = said_word other.allows ++ (reason_text other.reason ++ (codes " (grant " ++ (decimal other.grant ++ codes ")\n")))
 
--- a line for these releases, where something is said of them
-abbrev pub said_line : List ℕ → List ℕ → List ℕ
-said_line releases words = if length words == 0 then [] else codes "the MDS of Ceph " ++ (releases ++ words)
+-- a line for these releases behind a front, where something is said of them
+abbrev pub said_line : List ℕ → List ℕ → List ℕ → List ℕ
+said_line front releases words = if length words == 0 then [] else front ++ (codes "the MDS of Ceph " ++ (releases ++ words))
 
 -- a line for each release, and one for two or three that follow each other and of which the same is said
-abbrev pub said_lines : List ℕ → List ℕ → List ℕ → List ℕ
-said_lines pacific reef tentacle =
+abbrev pub said_lines : List ℕ → List ℕ → List ℕ → List ℕ → List ℕ
+said_lines front pacific reef tentacle =
     if bytes_eq pacific reef
-    then (if bytes_eq reef tentacle then said_line (codes "16, 18 and 20") pacific
-    else said_line (codes "16 and 18") pacific ++ said_line (codes "20") tentacle)
-    else said_line (codes "16") pacific
-    ++ (if bytes_eq reef tentacle then said_line (codes "18 and 20") reef
-    else said_line (codes "18") reef ++ said_line (codes "20") tentacle)
+    then (if bytes_eq reef tentacle then said_line front (codes "16, 18 and 20") pacific
+    else said_line front (codes "16 and 18") pacific ++ said_line front (codes "20") tentacle)
+    else said_line front (codes "16") pacific
+    ++ (if bytes_eq reef tentacle then said_line front (codes "18 and 20") reef
+    else said_line front (codes "18") reef ++ said_line front (codes "20") tentacle)
 
-abbrev pub others_lines : Others → List ℕ
-others_lines others = said_lines (said others.pacific) (said others.reef) (said others.tentacle)
+-- each behind the front
+abbrev pub others_lines : List ℕ → Others → List ℕ
+others_lines front others = said_lines front (said others.pacific) (said others.reef) (said others.tentacle)
 
--- this server's answer with what is left to the client, and those lines behind it
+-- this server's answer, with the path in quotes where it has to be, and behind it what is left to the client and those lines
 abbrev pub beside_text : Question → Answer → Option ℕ → Others → List ℕ
-beside_text q answer left others = remarked_text q answer left None ++ others_lines others
+beside_text q answer left others =
+    verdict_text q.access (quoted (path_text q.path)) answer ++ (codes "\n" ++ (left_line q.attr left ++ others_lines [] others))

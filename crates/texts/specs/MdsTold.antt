@@ -33,6 +33,9 @@ OneMdsText = (a b : Access) (p q : List (List ℕ)) (v w : Verdict) (refused als
 abbrev pub IsCounted : Option Otherwise → Type 0
 IsCounted other = IfSome other (λ one. one.grant < 2 ^ 64)
 
+abbrev pub AreCounted : Others → Type 0
+AreCounted others = IsCounted others.pacific × IsCounted others.reef × IsCounted others.tentacle
+
 -- the numbers fit
 pub record AreBeside (q : Question) (v : Answer) (left : Option ℕ) (others : Others) : Type 0 where
   pub access : HasNumber q.access

@@ -1,5 +1,5 @@
 -- The line that says of one client whether somebody behind its key may make an access.
-use Rattle.std.specs.Prelude.{ℕ, Option, List, ◌++◌, codes}
+use Rattle.std.specs.Prelude.{ℕ, List, ◌++◌, codes}
 use Rattle.std.specs.Fmt.{decimal}
 use Rattle.capspec.specs.declared.fault.SpecFault.{SpecFault}
 use Rattle.capspec.specs.declared.fault.SpecFaultKind.{SpecFaultKind}
@@ -9,10 +9,10 @@ use Rattle.capgrant.specs.declared.access.Access.{Access}
 use Rattle.capgrant.specs.Access.{access_word}
 use Rattle.policy_analysis.specs.declared.standing.Standing.{Standing}
 use Rattle.policy_analysis.specs.declared.standing.Standing.TheVariants.{Allowed, Denied, Depends}
-use Rattle.policy_analysis.specs.declared.differences.Otherwise.{Otherwise}
+use Rattle.release_rules.specs.declared.beside.Others.{Others}
 use Rattle.texts.specs.Explaining.{failures_text, path_text}
+use Rattle.texts.specs.Mds.{others_lines}
 use Rattle.texts.specs.Quoting.{quoted}
-use Rattle.texts.specs.Remarks.{otherwise_lines}
 
 -- what stands before the access
 abbrev pub standing_word : Standing → List ℕ
@@ -31,10 +31,9 @@ abbrev pub standing_line : List ℕ → Access → List (List ℕ) → Standing 
 standing_line client access path standing =
     quoted client ++ (standing_word standing ++ (access_word access ++ (codes " " ++ (quoted (path_text path) ++ (standing_reason standing ++ codes "\n")))))
 
--- for each difference by which the MDS of Ceph 16 lets in somebody where nobody may here, or nobody where somebody may, a line of the
--- client's
-abbrev pub standing_otherwise : List ℕ → Option Otherwise → List ℕ
-standing_otherwise client other = otherwise_lines (quoted client ++ codes ": ") other
+-- for each answer by which releases let in somebody where nobody may here, or nobody where somebody may, a line of the client's
+abbrev pub standing_others : List ℕ → Others → List ℕ
+standing_others client others = others_lines (quoted client ++ codes ": ") others
 
 abbrev pub fault_word : SpecFaultKind → List ℕ
 fault_word Empty = codes "Empty"

@@ -5,15 +5,15 @@ use Rattle.serde_json.specs.Data.{Data, Members, no_members, object, string}
 use Rattle.capspec.specs.declared.fault.SpecFault.{SpecFault}
 use Rattle.capgrant.specs.declared.access.Attr.{Attr}
 use Rattle.capgrant.specs.declared.answer.Verdict.TheVariants as verdicts
-use Rattle.policy_analysis.specs.declared.differences.Otherwise.{Otherwise}
 use Rattle.policy_analysis.specs.declared.standing.Standing.{Standing}
 use Rattle.policy_analysis.specs.declared.standing.Standing.TheVariants.{Allowed, Denied, Depends}
 use Rattle.policy_analysis.specs.Callers.{Wanted}
+use Rattle.release_rules.specs.declared.beside.Others.{Others}
 use Rattle.texts.specs.Explaining.{path_text}
 use Rattle.texts.specs.Lines.{HasNumber}
 use Rattle.texts.specs.Standing.{fault_word}
 use Rattle.texts.specs.Values.{Table, bytes_value, json_line, natural, with_all}
-use Rattle.texts.specs.Answers.{allowing_table, attr_table, otherwise_table, place_table, verdict_table}
+use Rattle.texts.specs.Answers.{allowing_table, attr_table, others_table, place_table, verdict_table}
 
 -- the owner, the group and the mode, where they are known
 abbrev pub known_table : Option Attr → Table
@@ -30,9 +30,9 @@ standing_table (Allowed grant) = allowing_table (codes "allowed") grant
 standing_table (Depends grant) = allowing_table (codes "depends") grant
 standing_table (Denied rules) = verdict_table (verdicts.Denied rules)
 
--- and what the MDS of Ceph 16 answers somebody, where it answers otherwise
-abbrev pub standing_value : List ℕ → Wanted → Option Attr → Standing → Option Otherwise → Data
-standing_value client w attr standing other = object (with_all (otherwise_table other) (with_all (standing_table standing) (with_client client w attr no_members)))
+-- and what the MDS of each release answers, where it answers otherwise
+abbrev pub standing_value : List ℕ → Wanted → Option Attr → Standing → Others → Data
+standing_value client w attr standing others = object (with_all (others_table others) (with_all (standing_table standing) (with_client client w attr no_members)))
 
 -- what is wrong with its grants, and how many bytes of their text stand before that
 abbrev pub fault_table : SpecFault → Table
@@ -43,8 +43,8 @@ unread_value client w attr fault = object (with_all (fault_table fault) (with_cl
 
 -- ---- as lines
 
-abbrev pub standing_object : List ℕ → Wanted → Option Attr → Standing → Option Otherwise → List ℕ
-standing_object client w attr standing other = json_line (standing_value client w attr standing other)
+abbrev pub standing_object : List ℕ → Wanted → Option Attr → Standing → Others → List ℕ
+standing_object client w attr standing others = json_line (standing_value client w attr standing others)
 
 abbrev pub unread_object : List ℕ → Wanted → Option Attr → SpecFault → List ℕ
 unread_object client w attr fault = json_line (unread_value client w attr fault)
@@ -65,5 +65,5 @@ AskAlike c d w u a b = (c ≡ d) × (w.access ≡ u.access) × (path_text w.path
 
 -- what is said of clients and is the same object is the same said of the same client
 abbrev pub OneStanding : Type 0
-OneStanding = (c d : List ℕ) (w u : Wanted) (a b : Option Attr) (s t : Standing) (other further : Option Otherwise) → IsWanted c w a → IsWanted d u b
-    → standing_value c w a s other ≡ standing_value d u b t further → AskAlike c d w u a b × (s ≡ t) × (other ≡ further)
+OneStanding = (c d : List ℕ) (w u : Wanted) (a b : Option Attr) (s t : Standing) (others further : Others) → IsWanted c w a → IsWanted d u b
+    → standing_value c w a s others ≡ standing_value d u b t further → AskAlike c d w u a b × (s ≡ t) × (others ≡ further)

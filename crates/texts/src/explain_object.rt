@@ -1,7 +1,7 @@
 //! The object that answers a question, with all that is worth a word beside it.
 ghost use Rattle.std.specs.Prelude.{◌≡◌, IfOk, OnOk};
-ghost use Rattle.serde_json.specs.View.{members_view, view};
-ghost use Rattle.texts.specs.Answers.{answer_object, answer_value, difference_value, otherwise_table, otherwise_value, remarks_table, verdict_word};
+ghost use Rattle.serde_json.specs.View.{members_view};
+ghost use Rattle.texts.specs.Answers.{answer_object, answer_value, remarks_table, verdict_word};
 ghost use Rattle.texts.specs.Pieces.{piece_value};
 ghost use Rattle.texts.specs.Values.{ReadsBack, natural, or_null, with_all};
 
@@ -10,9 +10,8 @@ use crate::question_object::put_question;
 use crate::table::{Members, Piece, print_object, put_all};
 use crate::verdict_object::put_verdict;
 use capgrant::{Question, Verdict};
-use policy_analysis::{Difference, Otherwise};
 use release_rules::Others;
-use serde_json::{Map, Value, put};
+use serde_json::Map;
 use std::alloc::{AllocError, Global};
 
 /// The object that says what is asked, what the verdict is and by which grant or rules, which grant leaves the inode's owner, group and
@@ -50,18 +49,6 @@ fn put_remarks(
     put_others(members, alloc, others)
 }
 
-/// Adds what the MDS of Ceph 16 answers where it answers otherwise, and else null.
-pub(crate) fn put_otherwise(
-    members: &mut Members,
-    alloc: Global,
-    other: &Option<Otherwise>,
-) -> Result<(), AllocError>
-    ensures { OnOk result (members_view members.new.entries ≡ with_all (otherwise_table other.now) (members_view members.old.entries)) }
-{
-    let other = otherwise_if(alloc, other)?;
-    put(members, alloc, "ceph16", other)
-}
-
 fn number_if(number: Option<u32>) -> Piece<'static>
     ensures { piece_value result ≡ or_null natural number }
 {
@@ -71,38 +58,9 @@ fn number_if(number: Option<u32>) -> Piece<'static>
     }
 }
 
-fn otherwise_if(alloc: Global, other: &Option<Otherwise>) -> Result<Value, AllocError>
-    ensures { IfOk result (λ value. view value ≡ or_null otherwise_value other.now) }
-{
-    let Some(other) = other else {
-        return Ok(Value::default());
-    };
-    let mut members = Map::new(alloc);
-    let table = [
-        ("verdict", Piece::Word(verdict_word(other.allows))),
-        ("grant", Piece::Number(u64::from(other.grant))),
-        ("by_grant", difference_if(other.by_grant)),
-        ("by_access", difference_if(other.by_access)),
-    ];
-    put_all(&mut members, alloc, &table)?;
-    Ok(Value::from(members))
-}
-
 /// Whether it allows, as a word.
 pub(crate) fn verdict_word(allows: bool) -> &'static str
     ensures { result.now ≡ verdict_word allows }
 {
     if allows { "allowed" } else { "denied" }
-}
-
-fn difference_if(difference: Option<Difference>) -> Piece<'static>
-    ensures { piece_value result ≡ or_null difference_value difference }
-{
-    match difference {
-        None => Piece::Null,
-        Some(Difference::OtherFileSystem) => Piece::Word("other-file-system"),
-        Some(Difference::AttributeByFlag) => Piece::Word("attribute-by-flag"),
-        Some(Difference::ModeByBits) => Piece::Word("mode-by-bits"),
-        Some(Difference::LargeUid) => Piece::Word("large-uid"),
-    }
 }

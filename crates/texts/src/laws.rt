@@ -10,7 +10,6 @@ ghost use Rattle.texts.specs.MdsStandings.{OneMdsClient};
 ghost use Rattle.texts.specs.MdsTold.{OneBeside, OneMdsText};
 ghost use Rattle.texts.specs.Lines.{HasGrant, HasNumber, OneComparison, OneStanding, OneUnread, answer_line};
 ghost use Rattle.texts.specs.Quoting.{quoted};
-ghost use Rattle.texts.specs.Remarked.{EachIsRemarked, OneRemark};
 ghost use Rattle.texts.specs.Standing.{standing_line, unread_line};
 
 /// No two texts are shown the same by `print_quoted`; and where a space stands behind, as behind a path in a line, no text can be taken
@@ -25,7 +24,7 @@ pub fn one_text_for_what_is_quoted()
 /// quotes as it has to: whatever its names hold, no line is that of another answer. So of clients: two that differ in the name, in what
 /// is asked or in what is said to that, or in what is wrong with their grants and where, have two lines. And of comparisons: two that differ
 /// in what is gained or in what is lost have other lines. So of what is found of a grant. And of whole answers, with all that is worth a
-/// word beside them, of Ceph 16 or of each release; and of the answers of a release, to a question and of a client.
+/// word beside them; and of the answers of a release, to a question and of a client.
 pub fn one_answer_for_a_line()
     ensures answer { (a b : Access) (p q : List ℕ) (v w : Verdict) → HasNumber a → HasNumber b → HasGrant v → HasGrant w
         → answer_line a p v ≡ answer_line b q w → (a ≡ b) × (p ≡ q) × (v ≡ w) }
@@ -33,8 +32,6 @@ pub fn one_answer_for_a_line()
     ensures unread { OneUnread }
     ensures comparison { OneComparison }
     ensures finding { OneFinding }
-    ensures remarked { OneRemark }
-    ensures remarks { EachIsRemarked }
     ensures beside { OneBeside }
     ensures release { OneMdsText }
     ensures client_by { OneMdsClient }

@@ -36,7 +36,7 @@ mod who_text;
 pub use access::read_access;
 pub use compare_object::change_objects;
 pub use compare_text::comparison_lines;
-pub use explain_more::remarked_lines;
+pub use explain_more::beside_lines;
 pub use explain_object::answer_object;
 pub use explain_text::{explain_line, print_failures, print_path};
 pub use fault::{LineFault, ScriptFault};
@@ -46,7 +46,7 @@ pub use lines::split_line;
 pub use lint_object::{print_finding_object, print_odd_object, print_refusal_object};
 pub use lint_text::{print_finding, print_odd, print_refusal};
 pub use mds_answer::mds_object;
-pub use mds_text::{beside_lines, mds_lines};
+pub use mds_text::mds_lines;
 pub use part_text::{print_bytes, print_groups, print_mode};
 pub use quoting::{print_quoted, print_quoted_path};
 pub use shape::Shape;
@@ -56,4 +56,4 @@ pub use who_mds::{
     print_mds_standing, print_mds_standing_object, print_mds_unread, print_mds_unread_object,
 };
 pub use who_object::{print_standing_object, print_unread_object};
-pub use who_text::{fault_word, print_standing, print_standing_otherwise, print_unread};
+pub use who_text::{fault_word, print_standing, print_standing_others, print_unread};

@@ -1,12 +1,11 @@
 //! What the MDS of a release says to a question, as lines.
 ghost use Rattle.std.specs.Prelude.{◌≡◌, ◌++◌, IfOk, OnOk, map};
-ghost use Rattle.texts.specs.Mds.{beside_text, mds_failure, mds_failures, mds_line, mds_outcome, mds_reason, mds_text, others_lines, reason_text};
+ghost use Rattle.texts.specs.Mds.{mds_failure, mds_failures, mds_line, mds_outcome, mds_reason, mds_text, others_lines, reason_text};
 ghost use Rattle.texts.specs.Mds.{refused_line, said, said_line, said_lines, said_word};
 
-use crate::explain_more::remarked_lines;
 use crate::quoting::print_quoted_path;
 use capbits::{print, print_numbered, print_str};
-use capgrant::{Access, Question};
+use capgrant::Access;
 use release_rules::{Others, Otherwise, Reason, Rule, Verdict};
 use std::alloc::{AllocError, Global};
 
@@ -112,25 +111,14 @@ pub(crate) fn print_refused(text: &mut Vec<u8>, refused: Option<usize>) -> Resul
 
 // ---- where releases answer otherwise
 
-/// The lines of this server's answer, with what the grant of this number leaves to the client, and behind them a line for each answer that
-/// releases give otherwise. Only memory can be missing.
-pub fn beside_lines(
-    alloc: Global,
-    question: &Question<'_>,
-    answer: &capgrant::Verdict,
-    left: Option<u32>,
+/// Appends behind this front a line for each answer that releases give otherwise, with the releases that give it and the reason. `AllocError`
+/// where no memory is left for it; some of it may stand in the text then.
+pub(crate) fn print_others(
+    text: &mut Vec<u8>,
+    front: &[u8],
     others: &Others,
-) -> Result<Vec<u8>, AllocError>
-    ensures { IfOk result (λ lines. lines.items ≡ beside_text question.now answer.now left others.now) }
-{
-    let mut lines = remarked_lines(alloc, question, answer, left, &None)?;
-    print_others(&mut lines, others)?;
-    Ok(lines)
-}
-
-// Appends a line for each answer that releases give otherwise, with the releases that give it and the reason.
-fn print_others(text: &mut Vec<u8>, others: &Others) -> Result<(), AllocError>
-    ensures { OnOk result (text.new.items ≡ text.old.items ++ others_lines others.now) }
+) -> Result<(), AllocError>
+    ensures { OnOk result (text.new.items ≡ text.old.items ++ others_lines front.now others.now) }
 {
     let alloc = *text.allocator();
     let pacific = said(alloc, &others.pacific)?;
@@ -138,6 +126,7 @@ fn print_others(text: &mut Vec<u8>, others: &Others) -> Result<(), AllocError>
     let tentacle = said(alloc, &others.tentacle)?;
     print_all_said(
         text,
+        front,
         pacific.as_slice(),
         reef.as_slice(),
         tentacle.as_slice(),
@@ -190,34 +179,41 @@ fn words_for(reason: Reason) -> &'static str
 // Appends a line for each release of which something is said, and one for those that follow each other and of which the same is.
 fn print_all_said(
     text: &mut Vec<u8>,
+    front: &[u8],
     pacific: &[u8],
     reef: &[u8],
     tentacle: &[u8],
 ) -> Result<(), AllocError>
-    ensures { OnOk result (text.new.items ≡ text.old.items ++ said_lines pacific.now reef.now tentacle.now) }
+    ensures { OnOk result (text.new.items ≡ text.old.items ++ said_lines front.now pacific.now reef.now tentacle.now) }
 {
     if pacific == reef && reef == tentacle {
-        return print_said(text, "16, 18 and 20", pacific);
+        return print_said(text, front, "16, 18 and 20", pacific);
     }
     if pacific == reef {
-        print_said(text, "16 and 18", pacific)?;
-        return print_said(text, "20", tentacle);
+        print_said(text, front, "16 and 18", pacific)?;
+        return print_said(text, front, "20", tentacle);
     }
-    print_said(text, "16", pacific)?;
+    print_said(text, front, "16", pacific)?;
     if reef == tentacle {
-        return print_said(text, "18 and 20", reef);
+        return print_said(text, front, "18 and 20", reef);
     }
-    print_said(text, "18", reef)?;
-    print_said(text, "20", tentacle)
+    print_said(text, front, "18", reef)?;
+    print_said(text, front, "20", tentacle)
 }
 
 // Appends a line for these releases, where something is said of them.
-fn print_said(text: &mut Vec<u8>, releases: &str, words: &[u8]) -> Result<(), AllocError>
-    ensures { OnOk result (text.new.items ≡ text.old.items ++ said_line releases.now words.now) }
+fn print_said(
+    text: &mut Vec<u8>,
+    front: &[u8],
+    releases: &str,
+    words: &[u8],
+) -> Result<(), AllocError>
+    ensures { OnOk result (text.new.items ≡ text.old.items ++ said_line front.now releases.now words.now) }
 {
     if words.is_empty() {
         return Ok(());
     }
+    text.extend_from_slice(front)?;
     print_str(text, "the MDS of Ceph ")?;
     print_str(text, releases)?;
     text.extend_from_slice(words)

@@ -4,36 +4,37 @@ ghost use Rattle.serde_json.specs.View.{members_view};
 ghost use Rattle.texts.specs.Standings.{fault_table, standing_object, standing_table, standing_value, unread_object, unread_value, with_client};
 ghost use Rattle.texts.specs.Values.{ReadsBack, with_all};
 
-use crate::explain_object::put_otherwise;
+use crate::mds_answer::put_others;
 use crate::question_object::{put_attr, put_place};
 use crate::table::{Members, Piece, print_object, put_all};
 use crate::verdict_object::{put_allowing, put_denial};
 use crate::who_text::fault_word;
 use capgrant::Attr;
 use capspec::SpecFault;
-use policy_analysis::{Otherwise, Standing, Wanted};
+use policy_analysis::{Standing, Wanted};
+use release_rules::Others;
 use serde_json::Map;
 use std::alloc::{AllocError, Global};
 
-/// Appends the object that says of a client whether somebody behind its key may do what is wanted, and by which grant or rules, and what
-/// the MDS of Ceph 16 answers somebody where it answers otherwise. It is a line, with its line feed. `AllocError` where no memory is left
-/// for it; some of it may stand in the text then.
+/// Appends the object that says of a client whether somebody behind its key may do what is wanted, and by which grant or rules, and what the MDS
+/// of each release answers where it answers otherwise. It is a line, with its line feed. `AllocError` where no memory is left for it; some of it
+/// may stand in the text then.
 pub fn print_standing_object(
     lines: &mut Vec<u8>,
     client: &[u8],
     wanted: &Wanted<'_>,
     attr: &Option<Attr>,
     standing: &Standing,
-    other: &Option<Otherwise>,
+    others: &Others,
 ) -> Result<(), AllocError>
-    ensures line { OnOk result (lines.new.items ≡ lines.old.items ++ standing_object client.now wanted.now attr.now standing.now other.now) }
-    ensures reads { OnOk result (ReadsBack (standing_value client.now wanted.now attr.now standing.now other.now)) }
+    ensures line { OnOk result (lines.new.items ≡ lines.old.items ++ standing_object client.now wanted.now attr.now standing.now others.now) }
+    ensures reads { OnOk result (ReadsBack (standing_value client.now wanted.now attr.now standing.now others.now)) }
 {
     let alloc = *lines.allocator();
     let mut members = Map::new(alloc);
     put_client(&mut members, alloc, client, wanted, attr)?;
     put_standing(&mut members, alloc, standing)?;
-    put_otherwise(&mut members, alloc, other)?;
+    put_others(&mut members, alloc, others)?;
     print_object(lines, members)
 }
 

@@ -1,14 +1,15 @@
 //! The line that says of one client whether somebody behind its key may make an access.
 ghost use Rattle.std.specs.Prelude.{◌≡◌, ◌++◌, OnOk, map};
-ghost use Rattle.texts.specs.Standing.{fault_word, standing_line, standing_otherwise, standing_reason, standing_word, unread_line};
+ghost use Rattle.texts.specs.Standing.{fault_word, standing_line, standing_others, standing_reason, standing_word, unread_line};
 
-use crate::explain_more::print_otherwise;
 use crate::explain_text::print_failures;
+use crate::mds_text::print_others;
 use crate::quoting::{print_quoted, print_quoted_path};
 use capbits::{print, print_numbered, print_str};
 use capgrant::Access;
 use capspec::{SpecFault, SpecFaultKind};
-use policy_analysis::{Otherwise, Standing};
+use policy_analysis::Standing;
+use release_rules::Others;
 use std::alloc::AllocError;
 
 /// Appends the line for a client: whether somebody behind its key may make the access to the inode with these names from the root
@@ -30,19 +31,19 @@ pub fn print_standing(
     Ok(text.push(b'\n')?)
 }
 
-/// Appends for each difference by which the MDS of Ceph 16 lets in somebody behind the client's key where nobody may, or nobody where
-/// somebody may, a line of the client's. `AllocError` where no memory is left for it; some of it may stand in the text then.
-pub fn print_standing_otherwise(
+/// Appends a line of the client's for each answer by which releases let in somebody behind its key where nobody may, or nobody where somebody
+/// may. `AllocError` where no memory is left for it; some of it may stand in the text then.
+pub fn print_standing_others(
     text: &mut Vec<u8>,
     client: &[u8],
-    other: &Option<Otherwise>,
+    others: &Others,
 ) -> Result<(), AllocError>
-    ensures { OnOk result (text.new.items ≡ text.old.items ++ standing_otherwise client.now other.now) }
+    ensures { OnOk result (text.new.items ≡ text.old.items ++ standing_others client.now others.now) }
 {
     let mut front = Vec::new(*text.allocator());
     print_quoted(&mut front, client)?;
     print_str(&mut front, ": ")?;
-    print_otherwise(text, front.as_slice(), other)
+    print_others(text, front.as_slice(), others)
 }
 
 // What stands before the access.

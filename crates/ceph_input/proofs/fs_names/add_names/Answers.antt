@@ -11,7 +11,7 @@ loop-grant-preserved c =
     let g = c.grant-item.result in
     let before = c.loop-grant.names.items in
     let whole = with_names c.args.names.now.items (named_by gs) in
-    elim c.match-fsname.branch [
+    elim c.match-grant.branch [
       | in-Some+in_ok-add_name w ↦ one_name gs i g c.loop-grant-test.true c.grant-item.is whole before _ w.in-Some.name w.in-Some.is (ap (λ v. v.items) w.names-is ∙ w.in_ok-add_name.ensures) c.loop-grant.invariant
       | in_default w ↦ no_name gs i g c.loop-grant-test.true c.grant-item.is whole before _ w.in_default.is (ap (λ v. v.items) w.names-is) c.loop-grant.invariant
     ]

@@ -45,6 +45,6 @@ returns-clause-reported g c =
     let means = subst (λ (text : List ℕ). auth_of text ≡ Some (Ok c.in_ok-list.list)) c.as_slice.ensures.value c.in_ok-list.ensures.ok in
     told c.args.who_args.now (g.R.Read.remaining (inner_of c.args.reader.now)) (g.R.Read.remaining (inner_of c.read_script.new.reader)) c.in_ok-auth.auth.items c.in_ok-auth.ensures.ok c.in_ok-auth.ensures.end
     c.in_ok-list.list c.in_ok-fs_names.field-0.items c.in_ok-attempt.attempt means c.in_ok-fs_names.ensures c.in_ok-attempt.ensures.ok
-    (g.W.Write.contents (inner_of c.args.writer.now)) (g.W.Write.contents (inner_of c.write_text.new.writer)) c.in_ok-fs.fs answer c.status_of-status.result _ c.write_text.result c.in_ok-auth.ensures.short
-    (subst (λ (ns : List (List ℕ)). fs_among ns c.in_ok-attempt.attempt.fs ≡ Some c.in_ok-fs.fs) c.as_slice-2.ensures.value c.in_ok-fs.ensures.ok) c.in_ok-answer.ensures c.status_of-status.ensures c.write_text.ensures.status
+    (g.W.Write.contents (inner_of c.args.writer.now)) (g.W.Write.contents (inner_of c.write_text.new.writer)) c.in_ok-fs.fs answer c.judged_status-status.result _ c.write_text.result c.in_ok-auth.ensures.short
+    (subst (λ (ns : List (List ℕ)). fs_among ns c.in_ok-attempt.attempt.fs ≡ Some c.in_ok-fs.fs) c.as_slice-2.ensures.value c.in_ok-fs.ensures.ok) c.in_ok-answer.ensures c.judged_status-status.ensures.judged c.write_text.ensures.status
     (subst (λ (lines : List ℕ). OnOk c.write_text.result (IsFalse (has_failed c.write_text.new.writer) × Appends (g.W.Write.contents (inner_of c.args.writer.now)) (g.W.Write.contents (inner_of c.write_text.new.writer)) lines)) c.as_slice-3.ensures.value c.write_text.ensures.ok)

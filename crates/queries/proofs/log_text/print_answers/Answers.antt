@@ -11,12 +11,13 @@ pub loop-access-preserved : goal.loop-access-preserved
 loop-access-preserved c =
     let has = c.args.has_path in
     let asked = c.args.question in
+    let grants = c.args.grants.now in
     let said = c.in_ok-is_answer.ensures in
     record {
       same = λ access. c.loop-access.invariant.same access;
       printed =
-          texts-more (said_line has c.args.number asked) c.args.reported.now.items c.loop-access.reported.items _ c.args.accesses.now c.loop-access.access-index _ (omega arith) c.loop-access.invariant.printed
-          (said.printed ∙ ap (λ (q : Question). c.loop-access.reported.items ++ said_line has c.args.number q q.access) (c.loop-access.invariant.same _));
+          texts-more (said_line has c.args.number grants asked) c.args.reported.now.items c.loop-access.reported.items _ c.args.accesses.now c.loop-access.access-index _ (omega arith) c.loop-access.invariant.printed
+          (said.printed ∙ ap (λ (q : Question). c.loop-access.reported.items ++ said_line has c.args.number grants q q.access) (c.loop-access.invariant.same _));
       judged =
           ap (λ (b : Bool). b && c.in_ok-is_answer.is_answer) c.loop-access.invariant.judged
           ∙ ap (λ (b : Bool). list_all (is_answer has asked) (take c.loop-access.access-index c.args.accesses.now) && b) (said.judged ∙ ap (λ (q : Question). is_answer has q q.access) (c.loop-access.invariant.same _))

@@ -7,6 +7,6 @@ use Rattle.queries.proofs.log_text.print_answers.Given as goal
 abbrev pub invariant-loop-access : goal.invariant-loop-access
 invariant-loop-access l = record {
   same : (access : Access) → with_access l.question access ≡ with_access l.fn.question access;
-  printed : l.reported.items ≡ l.initial.reported.items ++ flat_map (said_line l.has_path l.number l.fn.question) (take l.access-index l.accesses);
+  printed : l.reported.items ≡ l.initial.reported.items ++ flat_map (said_line l.has_path l.number l.grants l.fn.question) (take l.access-index l.accesses);
   judged : l.is_judged ≡ list_all (is_answer l.has_path l.fn.question) (take l.access-index l.accesses);
 }

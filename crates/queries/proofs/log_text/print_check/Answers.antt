@@ -1,4 +1,4 @@
-use Rattle.std.proofs.Common.{Bool, List, inl, inr, ap, refl, ◌∙◌}
+use Rattle.std.proofs.Common.{Bool, ℕ, List, inl, inr, ap, refl, ◌∙◌}
 use Rattle.std.specs.List.{flat_map, list_all}
 use Rattle.capgrant.specs.declared.access.Access.{Access}
 use Rattle.queries.specs.Before.{given_texts_of}
@@ -12,10 +12,11 @@ returns-in_default c = (unknown_line c.args.number c.args.check.now.mask.now, c.
 pub returns-in-Ok : goal.returns-in-Ok
 returns-in-Ok c =
     let question = c.in-Ok.question in
+    let grants : List ℕ = c.args.check.now.grants.now in
     let has_path : Bool = is_some (given_texts_of c.args.given.now).path in
-    let asked = c.as_slice.ensures.value ∙ c.in_ok-asked.ensures in (
-      flat_map (said_line c.has_path-has_path.result c.args.number question) c.as_slice.result.now,
-      c.in_ok-is_judged.ensures.printed,
+    let asked = c.as_slice-asked.ensures.value ∙ c.in_ok-asked.ensures in (
+      flat_map (said_line c.has_path-has_path.result c.args.number grants question) c.as_slice-asked.result.now,
+      c.in_ok-is_judged-in-Ok.ensures.printed,
       inr (
         c.fill.new.values,
         c.in_ok-fill.ensures,
@@ -25,11 +26,11 @@ returns-in-Ok c =
           is_mask = c.in-Some.ensures;
           asks = c.in-Ok.ensures.ok;
           more_is =
-              ap (λ (has : Bool). flat_map (said_line has c.args.number question) c.as_slice.result.now) c.has_path-has_path.ensures
-              ∙ ap (λ (accesses : List Access). flat_map (said_line has_path c.args.number question) accesses) asked;
+              ap (λ (has : Bool). flat_map (said_line has c.args.number grants question) c.as_slice-asked.result.now) c.has_path-has_path.ensures
+              ∙ ap (λ (accesses : List Access). flat_map (said_line has_path c.args.number grants question) accesses) asked;
           judged_is =
-              c.in_ok-is_judged.ensures.judged
-              ∙ ap (λ (has : Bool). list_all (is_answer has question) c.as_slice.result.now) c.has_path-has_path.ensures
+              c.in_ok-is_judged-in-Ok.ensures.judged
+              ∙ ap (λ (has : Bool). list_all (is_answer has question) c.as_slice-asked.result.now) c.has_path-has_path.ensures
               ∙ ap (λ (accesses : List Access). list_all (is_answer has_path question) accesses) asked;
         }),
       ),
@@ -37,7 +38,7 @@ returns-in-Ok c =
 
 pub returns : goal.returns
 returns c =
-    let reported = c.in_ok-print_fault.ensures in (
+    let reported = c.in_ok-print_fault-in-Err.ensures in (
       reported.0,
       reported.1,
       inr (

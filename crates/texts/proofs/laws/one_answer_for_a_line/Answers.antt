@@ -3,10 +3,8 @@ use Rattle.texts.proofs.Beside.{one_beside}
 use Rattle.texts.proofs.Compared.{one_comparison}
 use Rattle.texts.proofs.Clients.{no_fault, one_fault, one_standing}
 use Rattle.texts.proofs.Linted.{one_finding}
-use Rattle.texts.proofs.Asked.{is_remarked}
 use Rattle.texts.proofs.MdsAnswered.{one_mds_text}
 use Rattle.texts.proofs.MdsClients.{one_mds_client}
-use Rattle.texts.proofs.Remarked.{one_remark}
 use Rattle.texts.proofs.laws.one_answer_for_a_line.Goals as goal
 
 pub returns-clause-answer : goal.returns-clause-answer
@@ -26,12 +24,6 @@ returns-clause-comparison c = one_comparison
 
 pub returns-clause-finding : goal.returns-clause-finding
 returns-clause-finding c = one_finding
-
-pub returns-clause-remarked : goal.returns-clause-remarked
-returns-clause-remarked c = one_remark
-
-pub returns-clause-remarks : goal.returns-clause-remarks
-returns-clause-remarks c = is_remarked
 
 pub returns-clause-beside : goal.returns-clause-beside
 returns-clause-beside c = one_beside

@@ -10,4 +10,4 @@ returns c =
     let reef : c.as_slice-2.result.now ≡ said others.reef = c.as_slice-2.ensures.value ∙ c.in_ok-reef.ensures in
     let tentacle : c.as_slice-3.result.now ≡ said others.tentacle = c.as_slice-3.ensures.value ∙ c.in_ok-tentacle.ensures in
     subst (λ (lines : List ℕ). OnOk c.print_all_said.result (c.print_all_said.new.text.items ≡ c.args.text.now.items ++ lines))
-    (λ i. said_lines (pacific i) (reef i) (tentacle i)) c.print_all_said.ensures
+    (λ i. said_lines c.args.front.now (pacific i) (reef i) (tentacle i)) c.print_all_said.ensures

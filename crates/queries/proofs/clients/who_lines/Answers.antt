@@ -1,13 +1,15 @@
-use Rattle.std.proofs.Common.{ap, sym, ◌∙◌}
-use Rattle.queries.specs.Clients.{SaysFor}
+use Rattle.std.proofs.Common.{List, ap, sym, subst, ◌∙◌}
+use Rattle.ceph_input.specs.Auth.{Named}
+use Rattle.queries.specs.Attempts.{wanted_by}
+use Rattle.queries.specs.Clients.{AreLines, SaysFor}
 use Rattle.queries.proofs.ClientLines.{all_lines, both, no_line, not_all, one_line}
-use Rattle.queries.proofs.clients.client_lines.Goals as goal
-use Rattle.queries.proofs.clients.client_lines.Goals.{else-is_told, then-is_told+in_ok-is_judged+else-judges_all, then-is_told+in_ok-is_judged+then-judges_all}
+use Rattle.queries.proofs.clients.who_lines.Goals as goal
+use Rattle.queries.proofs.clients.who_lines.Goals.{else-is_told, then-is_told+in_ok-is_judged+else-judges_all, then-is_told+in_ok-is_judged+then-judges_all}
 
 pub loop-entity-preserved : goal.loop-entity-preserved
 loop-entity-preserved c =
-    let say = SaysFor c.args.telling c.args.wanted.now c.args.attr.now c.args.there.now in
-    let es = c.args.entities.now in
+    let say = SaysFor c.args.telling (wanted_by c.args.attempt.now c.args.fs.now) c.args.attempt.now.attr c.args.mds in
+    let es = c.entities-entities.result.now in
     let i = c.loop-entity.entity-index in
     let e = c.entity-item.result in
     let judged = c.loop-entity.judges_all in
@@ -23,4 +25,9 @@ loop-entity-preserved c =
     ]
 
 pub returns : goal.returns
-returns c = all_lines (SaysFor c.args.telling c.args.wanted.now c.args.attr.now c.args.there.now) c.args.entities.now c.loop-entity.entity-index c.loop-entity.judges_all c.loop-entity.lines.items c.loop-entity-test.false c.loop-entity.invariant
+returns c =
+    let say = SaysFor c.args.telling (wanted_by c.args.attempt.now c.args.fs.now) c.args.attempt.now.attr c.args.mds in
+    let judged = c.loop-entity.judges_all in
+    let text = c.loop-entity.lines.items in
+    subst (λ (es : List Named). AreLines say es judged text) c.entities-entities.ensures
+    (all_lines say c.entities-entities.result.now c.loop-entity.entity-index judged text c.loop-entity-test.false c.loop-entity.invariant)
