@@ -23,6 +23,8 @@ KEYWORDS = set("as const dyn else extern false fn for if impl in let mut pub ref
 MARKS = set("( ) { } . ; , @ → × ↦ = | λ".split()) | {". ", "\n", ""}
 # What says how a thing is compiled or proved, and not what it is.
 UNSEEN = {"tactic", "inline", "cycle", "allow", "cfg", "test", "cold"}
+# Where the laws stand that are read with the tests.
+LAWS = "worked_cases/"
 PRELUDES = ("Rattle.std.specs.Prelude.", "Rattle.std.proofs.Common.")
 
 
@@ -152,10 +154,10 @@ class Checkout:
             self.crates[folder.parent.name] = Crate(folder.parent.name)
         for name, crate in self.crates.items():
             folder = self.top / "crates" / name
-            paths = sorted((folder / "src").glob("*.rt"), key=lambda path: path.stem not in ("lib", "main"))
-            crate.files = {path.stem for path in paths}
-            for path in paths:
-                CodeFile(self, crate, path.stem, path.read_text(encoding="utf-8"))
+            paths = {path.relative_to(folder / "src").with_suffix("").as_posix(): path for path in sorted((folder / "src").glob("**/*.rt"))}
+            crate.files = set(paths)
+            for file in sorted(paths, key=lambda file: file not in ("lib", "main")):
+                CodeFile(self, crate, file, paths[file].read_text(encoding="utf-8"))
             for path in sorted((folder / "specs").glob("*.antt")):
                 SpecFile(self, crate, path.stem, path.read_text(encoding="utf-8"))
 
@@ -348,7 +350,7 @@ class CodeFile:
         return Text(re.sub(r"(?m)(^|\s)//.*", "", text), scope, False, bound)
 
     def is_public(self, start, at):
-        if self.file in self.crate.tests or self.crate.name.startswith("tests_"):
+        if (self.file in self.crate.tests or self.crate.name.startswith("tests_")) and not self.file.startswith(LAWS):
             return False
         return any(self.words[place] == "pub" and self.words[place + 1] != "(" for place in range(start, at))
 

@@ -23,7 +23,7 @@ pub const USAGE: u8 = 2;
 
 /// Does what the words behind the program's name ask for, and returns the status: a job where they are three, and else a piece of work with
 /// the text that is read.
-pub fn dispatch<R: Read, W: Write>(
+pub(crate) fn dispatch<R: Read, W: Write>(
     alloc: Global,
     words: &[Vec<u8>],
     reader: &mut R,
@@ -60,7 +60,7 @@ fn sum_of<R: Read, W: Write>(
 }
 
 /// Reads all that there is to read, but for a line feed behind the last line.
-pub fn read_text<R: Read>(alloc: Global, reader: &mut R) -> Result<Vec<u8>, Fault> {
+pub(crate) fn read_text<R: Read>(alloc: Global, reader: &mut R) -> Result<Vec<u8>, Fault> {
     let mut text = read_script(alloc, &mut Watched::new(reader))?;
     if let [.., b'\n'] = text.as_slice() {
         text.pop();
@@ -69,7 +69,11 @@ pub fn read_text<R: Read>(alloc: Global, reader: &mut R) -> Result<Vec<u8>, Faul
 }
 
 /// Writes the sum that a piece of work comes to as a line, or why there is none, and returns the status.
-pub fn tell_sum(sum: Result<u64, Fault>, writer: &mut impl Write, faults: &mut impl Write) -> u8
+pub(crate) fn tell_sum(
+    sum: Result<u64, Fault>,
+    writer: &mut impl Write,
+    faults: &mut impl Write,
+) -> u8
     ensures { result ≤ USAGE }
 {
     match sum {

@@ -11,17 +11,17 @@ use std::io::Write;
 use texts::ScriptFault;
 
 /// How often something is tried that finds no memory: more often than memory is refused in a row.
-pub const TRIES: u32 = 16;
+pub(crate) const TRIES: u32 = 16;
 
 const PASS: PassId = PassId(1);
 
 /// The lines of a script.
-pub fn lines_of(alloc: Global, script: &[u8]) -> Result<Vec<&[u8]>, Fault> {
+pub(crate) fn lines_of(alloc: Global, script: &[u8]) -> Result<Vec<&[u8]>, Fault> {
     Ok(script.split(|byte| *byte == b'\n').collect(alloc)?)
 }
 
 /// The event that a line says, with the client that it is about. Where it finds no memory it is read again.
-pub fn event_of(alloc: Global, line: &[u8]) -> Result<(Option<ClientId>, Event), Fault> {
+pub(crate) fn event_of(alloc: Global, line: &[u8]) -> Result<(Option<ClientId>, Event), Fault> {
     for _ in 0..TRIES {
         match read_line(alloc, 1, line) {
             Ok(Some(said)) => return Ok(said),
@@ -39,7 +39,7 @@ pub(crate) fn apply(core: &mut Core, event: Event) -> Result<Reply, Stop> {
 
 /// What was answered, as far as who asked has to know it.
 #[derive(Clone, Copy)]
-pub enum Heard {
+pub(crate) enum Heard {
     /// It was answered.
     Answered,
     /// It was answered, and is not published yet.
@@ -55,7 +55,7 @@ pub enum Heard {
 /// What is written of a script that is played. It keeps its first fault, behind which no line says an event and nothing is written: so who
 /// plays need not look for a fault until the end.
 #[derive(Drop)]
-pub struct Transcript<'w, W> {
+pub(crate) struct Transcript<'w, W> {
     alloc: Global,
     writer: &'w mut W,
     fault: Option<Fault>,

@@ -1,12 +1,12 @@
 //! Talks, played to the commands of `capd` and to those of this program.
 
 use crate::work;
+use bench_kit::{Outcome, Output, Page, Place, Program, Run, TalkFault, read_talks};
 use std::fs;
 use std::fs::Files;
 use std::io::Write;
 use std::sync::Wait;
 use std::thread::Threads;
-use talks::{Fault, Outcome, Output, Page, Place, Program, Run, read_talks};
 use texts::Watched;
 
 /// Plays the files of these names, up to the first that has a fault, and returns the status: 0 where all talks agree, else 1. A line is written
@@ -18,12 +18,12 @@ pub fn play_files(
     faults: &mut impl Write,
 ) -> u8 {
     if names.is_empty() {
-        return Fault::NoFile.report(faults);
+        return TalkFault::NoFile.report(faults);
     }
     let mut page = Page::new(writer);
     for name in names {
         let Ok(name) = String::from_utf8_lossy(rt.alloc(), name.as_slice()) else {
-            return Fault::NoMemory.report(faults);
+            return TalkFault::NoMemory.report(faults);
         };
         if let Err(place) = play_file(rt, name.as_str(), &mut page) {
             return place.report(name.as_str(), faults);
@@ -39,7 +39,7 @@ fn play_file<W: Write>(
     page: &mut Page<'_, W>,
 ) -> Result<(), Place> {
     let Ok(text) = fs::read(rt, name) else {
-        return Err(Fault::Unread.at(0));
+        return Err(TalkFault::Unread.at(0));
     };
     let talks = read_talks(rt.alloc(), text.as_slice())?;
     for talk in talks.as_slice() {

@@ -21,7 +21,7 @@ pub fn dispatch(
             let digest = serve_script(rt, rt.alloc(), count.as_slice(), seed.as_slice());
             tell_digest(digest, writer, faults)
         }
-        _ => bench_server::dispatch(rt, rt.alloc(), words, reader, writer, faults),
+        _ => bench_kit::dispatch(rt, rt.alloc(), words, reader, writer, faults),
     }
 }
 

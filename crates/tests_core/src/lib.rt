@@ -4,6 +4,8 @@
 //! They show what no answer of a command shows; all else is asked in the talks of `capbench`. They stand in a crate of their own,
 //! since a crate with tests is proved twice. The asserts stand in helpers without a contract, and so do the reads of values, since
 //! the proof of a test goes through each fact that its body is told.
+//!
+//! Beside them stand worked cases of the definitions, as laws, which no test calls.
 #![tactic(auto)]
 
 #[cfg(test)]
@@ -60,3 +62,5 @@ mod viewing;
 mod views;
 #[cfg(test)]
 mod waits;
+#[cfg(test)]
+mod worked_cases;

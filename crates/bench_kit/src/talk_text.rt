@@ -1,0 +1,87 @@
+//! Texts of a talk, and the bytes that they stand for.
+
+use crate::talk_fault::TalkFault;
+use std::alloc::Global;
+
+/// Adds the bytes of a line and a line feed, which a backslash at its end takes away.
+pub fn push_line(bytes: &mut Vec<u8>, text: &[u8]) -> Result<(), TalkFault> {
+    match text.split_last() {
+        Some((b'\\', front)) => push_bytes(bytes, front),
+        _ => {
+            push_bytes(bytes, text)?;
+            bytes.push(b'\n')?;
+            Ok(())
+        }
+    }
+}
+
+// Adds the bytes of a text. Behind a backslash stands a byte as an `x` and two digits.
+fn push_bytes(bytes: &mut Vec<u8>, text: &[u8]) -> Result<(), TalkFault> {
+    let mut is_behind = false;
+    for part in text.split(|byte| *byte == b'\\') {
+        let plain = if is_behind {
+            push_digits(bytes, part)?
+        } else {
+            part
+        };
+        bytes.extend_from_slice(plain)?;
+        is_behind = true;
+    }
+    Ok(())
+}
+
+// Adds the byte that a text begins with as an `x` and two digits, and returns the text behind these.
+fn push_digits<'a>(bytes: &mut Vec<u8>, text: &'a [u8]) -> Result<&'a [u8], TalkFault> {
+    let [b'x', high, low, rest @ ..] = text else {
+        return Err(TalkFault::NotUnderstood);
+    };
+    let (high, low) = (digit(*high)?, digit(*low)?);
+    bytes.push(high << 4 | low)?;
+    Ok(rest)
+}
+
+// The value of a hexadecimal digit in lower case.
+fn digit(byte: u8) -> Result<u8, TalkFault> {
+    match byte {
+        b'0'..=b'9' => Ok(byte - b'0'),
+        b'a'..=b'f' => Ok(byte - b'a' + 10),
+        _ => Err(TalkFault::NotUnderstood),
+    }
+}
+
+/// The words of a command line. They are parted by spaces; one that begins with a quote goes on to the next.
+pub fn read_words(alloc: Global, text: &[u8]) -> Result<Vec<Vec<u8>>, TalkFault> {
+    let mut words = Vec::new(alloc);
+    let mut rest = text;
+    for _ in 0..text.len() {
+        if rest.is_empty() {
+            break;
+        }
+        let (word, behind) = split_word(rest)?;
+        let mut bytes = Vec::new(alloc);
+        push_bytes(&mut bytes, word)?;
+        words.push(bytes)?;
+        rest = behind;
+    }
+    Ok(words)
+}
+
+// The first word, and the words behind it.
+fn split_word(text: &[u8]) -> Result<(&[u8], &[u8]), TalkFault> {
+    match text {
+        [b'\'', quoted @ ..] => match split_at(quoted, b'\'') {
+            (word, []) => Ok((word, &[])),
+            (word, [b' ', behind @ ..]) => Ok((word, behind)),
+            _ => Err(TalkFault::NotUnderstood),
+        },
+        _ => Ok(split_at(text, b' ')),
+    }
+}
+
+// What stands before the first such byte, and what behind it.
+fn split_at(text: &[u8], mark: u8) -> (&[u8], &[u8]) {
+    match text.iter().position(|byte| *byte == mark) {
+        Some(end) => (&text[..end], &text[end + 1..]),
+        None => (text, &[]),
+    }
+}
