@@ -1,6 +1,7 @@
 -- What was written where the work was done.
 use Rattle.std.proofs.Common.{◌≡◌, ◌≤◌, ◌⊎◌, ℕ, Option, List, inl, inr, arith, subst}
 use Rattle.std.specs.Global.{Vec}
+use Rattle.std.specs.Prelude.{Ok, OnOk, Result}
 use Rattle.std.specs.Io.KnownBytes.{Keeps}
 use Rattle.cli_queries.specs.Files.{ReadsFile}
 use Rattle.cli_queries.specs.FileSystems.{AppendsFront, KnowsNames, Notes, given_in, named_by, note_of}
@@ -30,3 +31,8 @@ by_answer invocation read input status old new before after from (inr stopped) (
 pub noted : (asked known : Invocation) (input before after : Option (List ℕ)) → KnowsNames asked known input → AppendsFront before after (note_of (named_by known) (given_in known)) → Notes asked input before after
 noted asked known input before after knows said =
     (named_by known, knows.0, subst (λ (given : Option (Vec ℕ)). AppendsFront before after (note_of (named_by known) given)) knows.1 said)
+
+-- ---- results
+
+pub at_ok : {T E P : Type 0} {r : Result T E} {x : T} → r ≡ Ok x → OnOk r P → P
+at_ok {T} {E} {P} is holds = subst (λ (s : Result T E). OnOk s P) is holds

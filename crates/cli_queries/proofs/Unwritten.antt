@@ -14,10 +14,10 @@ use Rattle.queries.specs.declared.question.Question.{Question}
 use Rattle.queries.specs.declared.question.Values.{Values}
 use Rattle.queries.specs.Fault.{IsFaultOf, IsFaultOfText}
 use Rattle.queries.specs.Options.{all_options}
-use Rattle.queries.specs.Question.{Asks, AsksFor, IsFaultIn, IsFaultOfAsking, IsGood}
-use Rattle.queries.specs.Mds.{IsMdsFault, MdsReads, answer_by}
+use Rattle.queries.specs.Question.{AsksFor, IsFaultIn, IsGood}
+use Rattle.queries.specs.Mds.{AsksThere, IsFaultThere, IsMdsFault, MdsReads, answer_by}
 use Rattle.queries.specs.declared.mds.MdsAnswer.{MdsAnswer}
-use Rattle.queries.specs.declared.question.Asking.{Asking}
+use Rattle.queries.specs.declared.mds.MdsAsking.{MdsAsking}
 use Rattle.release_rules.specs.declared.grant.Grant.{Grant as Given}
 use Rattle.queries.specs.declared.mds.MdsFault.{MdsFault}
 use Rattle.queries.specs.declared.mds.MdsFault.TheVariants as mds
@@ -48,9 +48,9 @@ refused_unwritten text known failed refused (Ok x) found passed = tt
 refused_unwritten text known failed refused (Err fault) found passed = inr ((passed.0, passed.1, text_fault text refused passed.0 found passed.2), unchanged known)
 
 -- values that ask a question are good
-all_good : (v : Values) (q : Question) → AsksFor v q → All (IsGood v) all_options
+all_good : (v : Values) (q : Question) → AsksFor v q → All (IsGood v v.access.items) all_options
 all_good v q asks =
-    All-from_recursion (IsGood v) all_options ((q.grants, asks.grants), ((q.fs, asks.fs), ((q.caller.uid, asks.uid), ((q.caller.gid, asks.gid), ((q.caller.groups, asks.groups), ((q.path, asks.path), ((q.attr.uid, asks.owner), ((q.attr.gid, asks.group), ((q.attr.mode, asks.mode), ((q.access, asks.access), (asks.address, tt)))))))))))
+    All-from_recursion (IsGood v v.access.items) all_options ((q.grants, asks.grants), ((q.fs, asks.fs), ((q.caller.uid, asks.uid), ((q.caller.gid, asks.gid), ((q.caller.groups, asks.groups), ((q.path, asks.path), ((q.attr.uid, asks.owner), ((q.attr.gid, asks.group), ((q.attr.mode, asks.mode), ((q.access, asks.access), (asks.address, tt)))))))))))
 
 -- values that ask no question
 pub refused_question : {T : Type 0} (v : Values) (known : Option (List ℕ)) (failed : Bool) (found : QuestionFault) (answer : Result T AnswerFault) → IsFaultIn v found → IsErrAnd answer (λ fault. fault ≡ fault_of found)
@@ -87,7 +87,7 @@ module _ (release : Release) (v : Values) (old new : Option (List ℕ)) (failed 
   refused_by found (Err fault) why reported = inr (found, reported, why, unchanged old)
 
   -- the values ask nothing
-  pub refused_asking : {T : Type 0} (found : QuestionFault) (answer : Result T AnswerFault) → IsFaultOfAsking v found → IsErrAnd answer (λ fault. fault ≡ fault_of found)
+  pub refused_asking : {T : Type 0} (found : QuestionFault) (answer : Result T AnswerFault) → IsFaultThere v found → IsErrAnd answer (λ fault. fault ≡ fault_of found)
       → IfErr answer (λ fault. StopsBy (Some release) v fault failed old old)
   refused_asking found (Ok x) why reported = tt
   refused_asking found (Err fault) why reported = inl (inr ((found, reported, why), unchanged old))
@@ -104,7 +104,7 @@ module _ (release : Release) (v : Values) (old new : Option (List ℕ)) (failed 
   unwritten_by (Err fault) (inr missed) = inr (mds.NoMemory, missed.0, tt, missed.1)
 
 -- what it says is told
-pub told_by : (release : Release) (v : Values) (old new : Option (List ℕ)) (form : Form) (asked : Asking) (grants : List Given) (answer : MdsAnswer) (told : Result ℕ AnswerFault) → Asks v asked → MdsReads release v.grants.items grants
+pub told_by : (release : Release) (v : Values) (old new : Option (List ℕ)) (form : Form) (asked : MdsAsking) (grants : List Given) (answer : MdsAnswer) (told : Result ℕ AnswerFault) → AsksThere v asked → MdsReads release v.grants.items grants
     → answer ≡ answer_by release asked grants → IfOk told (λ status. IsAnsweredBy form asked answer status old new) → IfOk told (λ status. AnswersBy (Some release) form v status old new)
 told_by release v old new form asked grants answer (Ok status) asks reads is told = (asked, grants, asks, reads, subst (λ (a : MdsAnswer). IsAnsweredBy form asked a status old new) is told)
 told_by release v old new form asked grants answer (Err fault) asks reads is told = tt

@@ -13,8 +13,8 @@ use Rattle.queries.specs.Fault.{IsFaultOfText}
 use Rattle.queries.specs.declared.fault.QuestionFault.{QuestionFault}
 use Rattle.queries.specs.declared.mds.MdsFault.{MdsFault}
 use Rattle.queries.specs.declared.question.Values.{Values}
-use Rattle.queries.specs.Mds.{IsMdsFault}
-use Rattle.queries.specs.Question.{IsFaultIn, IsFaultOfAsking}
+use Rattle.queries.specs.Mds.{IsFaultThere, IsMdsFault}
+use Rattle.queries.specs.Question.{IsFaultIn}
 use Rattle.texts.specs.declared.shape.Shape.{Shape}
 use Rattle.texts.specs.Shapes.{nothing_in}
 use Rattle.queries.specs.Linting.{IsLintBy, IsLintOf}
@@ -43,7 +43,7 @@ pub record AnswersExplainArgs (explain_args : ExplainArgs) (input : Option (List
 abbrev pub StopsBy : Option Release → Values → AnswerFault → Bool → Option (List ℕ) → Option (List ℕ) → Type 0
 StopsBy None v fault unwritten old new = StopsBefore (IsFaultIn v) fault unwritten old new
 StopsBy (Some release) v fault unwritten old new =
-    StopsBefore (IsFaultOfAsking v) fault unwritten old new ⊎ ((found : MdsFault) × (fault ≡ mds_fault_of found) × IsMdsFault release v.grants.items found × Keeps old new)
+    StopsBefore (IsFaultThere v) fault unwritten old new ⊎ ((found : MdsFault) × (fault ≡ mds_fault_of found) × IsMdsFault release v.grants.items found × Keeps old new)
 
 -- the text of the grants can't be had, and nothing was written; or no read failed, and the question by that text stops
 abbrev pub StopsExplainArgs : ExplainArgs → AnswerFault → Option (List ℕ) → Bool → Bool → Option (List ℕ) → Option (List ℕ) → Type 0

@@ -7,11 +7,11 @@ use Rattle.release_rules.specs.declared.grant.Grant.{Grant}
 use Rattle.release_rules.specs.declared.release.Release.{Release}
 use Rattle.release_rules.specs.Verdicts.{is_allowed as is_allowed_by}
 use Rattle.queries.specs.declared.mds.MdsAnswer.{MdsAnswer}
-use Rattle.queries.specs.declared.question.Asking.{Asking}
+use Rattle.queries.specs.declared.mds.MdsAsking.{MdsAsking}
 use Rattle.queries.specs.declared.question.Question.{Question}
 use Rattle.queries.specs.declared.question.Values.{Values}
-use Rattle.queries.specs.Mds.{MdsReads, answer_by, lines_by, object_by}
-use Rattle.queries.specs.Question.{Asks, AsksFor, answer_text, verdict_on}
+use Rattle.queries.specs.Mds.{AsksThere, MdsReads, answer_by, lines_by, object_by}
+use Rattle.queries.specs.Question.{AsksFor, answer_text, verdict_on}
 use Rattle.queries.specs.Remarks.{remarked_answer, remarked_object}
 use Rattle.texts.specs.declared.fault.ScriptFault.TheVariants as stops
 use Rattle.texts.specs.ScriptLines.{longest_script}
@@ -78,7 +78,7 @@ IsAnswered forms.Object text q status old new = (status ≡ 0) × Appends old ne
 IsAnswered forms.Status text q status old new = (status ≡ (if is_allowed (verdict_on q) then 0 else 3)) × Keeps old new
 
 -- the same with what the MDS of a release says, for which there is no more to be said
-abbrev pub IsAnsweredBy : Form → Asking → MdsAnswer → ℕ → Option (List ℕ) → Option (List ℕ) → Type 0
+abbrev pub IsAnsweredBy : Form → MdsAsking → MdsAnswer → ℕ → Option (List ℕ) → Option (List ℕ) → Type 0
 IsAnsweredBy forms.Line a answer status old new = (status ≡ 0) × Appends old new (lines_by a answer)
 IsAnsweredBy forms.More a answer status old new = (status ≡ 0) × Appends old new (lines_by a answer)
 IsAnsweredBy forms.Object a answer status old new = (status ≡ 0) × Appends old new (object_by a answer)
@@ -88,4 +88,4 @@ IsAnsweredBy forms.Status a answer status old new = (status ≡ (if is_allowed_b
 abbrev pub AnswersBy : Option Release → Form → Values → ℕ → Option (List ℕ) → Option (List ℕ) → Type 0
 AnswersBy None form v status old new = (asked : Question) × AsksFor v asked × IsAnswered form v.grants.items asked status old new
 AnswersBy (Some release) form v status old new =
-    (asked : Asking) × (grants : List Grant) × Asks v asked × MdsReads release v.grants.items grants × IsAnsweredBy form asked (answer_by release asked grants) status old new
+    (asked : MdsAsking) × (grants : List Grant) × AsksThere v asked × MdsReads release v.grants.items grants × IsAnsweredBy form asked (answer_by release asked grants) status old new

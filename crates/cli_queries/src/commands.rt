@@ -20,7 +20,7 @@ use crate::fault::AnswerFault;
 use crate::status::{DENIED, DONE, FOUND};
 use capspec::{read_grants, write_grants};
 use queries::{
-    Asking, MdsAnswer, NotRead, Question, Values, compare, lint_by, lint_text, mds_grants,
+    MdsAnswer, MdsAsking, NotRead, Question, Values, compare, lint_by, lint_text, mds_grants,
 };
 use release_rules::{NoForm, Release, mds_form};
 use std::alloc::Global;
@@ -96,7 +96,7 @@ fn write_mds_answer<W: Write>(
         (W.contents (inner_of writer.old)) (W.contents (inner_of writer.new))) }
 {
     let grants = mds_grants(alloc, values.grants.as_slice(), release)?;
-    let asking = Asking::read(alloc, values)?;
+    let asking = MdsAsking::read(alloc, values)?;
     let answer = asking.judge_by(alloc, release, grants.as_slice())?;
     write_failed(alloc, &asking, &answer, form, writer)
 }
@@ -104,7 +104,7 @@ fn write_mds_answer<W: Write>(
 // Tells what the MDS of a release says by lines, by an object, or by the status alone.
 fn write_failed<W: Write>(
     alloc: Global,
-    asking: &Asking,
+    asking: &MdsAsking,
     answer: &MdsAnswer,
     form: Form,
     writer: &mut Watched<W>,

@@ -11,7 +11,7 @@ use crate::notes::Detail;
 use capbits::{CapSet, print_numbered, print_str};
 use capgrant::Access;
 use std::alloc::AllocError;
-use texts::{Piece, print_pieces};
+use texts::{MdsAccess, Piece, print_pieces};
 
 // How many members of what is found those of one client and one reason have in common, and how many those of two clients in conflict
 // by the same caps.
@@ -109,7 +109,7 @@ fn access_if(access: Option<Access>) -> Piece<'static>
 {
     match access {
         None => Piece::Null,
-        Some(access) => Piece::Access(access),
+        Some(access) => Piece::Access(MdsAccess::One(access)),
     }
 }
 

@@ -2,6 +2,8 @@ pub mod Options
 pub mod Fault
 pub mod Values
 pub mod Question
+pub mod Cuts
+pub mod MdsWords
 pub mod Mds
 pub mod Remarks
 pub mod Comparing
@@ -10,7 +12,6 @@ pub mod Attempts
 pub mod ClientsBy
 pub mod Clients
 pub mod ClientsReported
-pub mod Cuts
 pub mod Checks
 pub mod Before
 pub mod WrittenChecks

@@ -37,8 +37,8 @@ pub record AsksFor (v : Values) (q : Question) : Type 0 where
   pub access : IsAccessWord v.access.items q.access
   pub address : (address : Option IpAddr) × IsAddressIf v.addr address
 
--- they ask this, whatever the grants
-pub record Asks (v : Values) (a : Asking) : Type 0 where
+-- they ask this, whatever the grants, where this text stands for the access
+pub record AsksBy (v : Values) (access_text : List ℕ) (a : Asking) : Type 0 where
   pub fs : IsFs v.fs.items a.fs
   pub uid : IsNumber v.uid.items a.caller.uid
   pub gid : IsNumber v.gid.items a.caller.gid
@@ -47,7 +47,7 @@ pub record Asks (v : Values) (a : Asking) : Type 0 where
   pub owner : IsNumber v.owner.items a.attr.uid
   pub group : IsNumber v.group.items a.attr.gid
   pub mode : IsModeText v.mode.items a.attr.mode
-  pub access : IsAccessWord v.access.items a.access
+  pub access : IsAccessWord access_text a.access
   pub address : IsAddressIf v.addr a.address
 
 -- the values name the caller
@@ -58,43 +58,43 @@ IsCaller v caller = IsNumber v.uid.items caller.uid × IsNumber v.gid.items call
 abbrev pub IsAttr : Values → Attr → Type 0
 IsAttr v attr = IsNumber v.owner.items attr.uid × IsNumber v.group.items attr.gid × IsModeText v.mode.items attr.mode
 
--- the value of the option means something
-abbrev pub IsGood : Values → Opt → Type 0
-IsGood v Grants = (grants : List Grant) × Reads v.grants.items grants
-IsGood v Fs = (name : List ℕ) × IsFs v.fs.items name
-IsGood v Uid = (uid : ℕ) × IsNumber v.uid.items uid
-IsGood v Gid = (gid : ℕ) × IsNumber v.gid.items gid
-IsGood v Groups = (gids : List ℕ) × AreGroupsIf v.groups gids
-IsGood v Path = (names : List (List ℕ)) × ArePathNames v.path.items names
-IsGood v Owner = (uid : ℕ) × IsNumber v.owner.items uid
-IsGood v Group = (gid : ℕ) × IsNumber v.group.items gid
-IsGood v Mode = (mode : ℕ) × IsModeText v.mode.items mode
-IsGood v Access = (access : AnAccess) × IsAccessWord v.access.items access
-IsGood v Addr = (address : Option IpAddr) × IsAddressIf v.addr address
+-- the value of the option means something, where this text stands for the access
+abbrev pub IsGood : Values → List ℕ → Opt → Type 0
+IsGood v access_text Grants = (grants : List Grant) × Reads v.grants.items grants
+IsGood v access_text Fs = (name : List ℕ) × IsFs v.fs.items name
+IsGood v access_text Uid = (uid : ℕ) × IsNumber v.uid.items uid
+IsGood v access_text Gid = (gid : ℕ) × IsNumber v.gid.items gid
+IsGood v access_text Groups = (gids : List ℕ) × AreGroupsIf v.groups gids
+IsGood v access_text Path = (names : List (List ℕ)) × ArePathNames v.path.items names
+IsGood v access_text Owner = (uid : ℕ) × IsNumber v.owner.items uid
+IsGood v access_text Group = (gid : ℕ) × IsNumber v.group.items gid
+IsGood v access_text Mode = (mode : ℕ) × IsModeText v.mode.items mode
+IsGood v access_text Access = (access : AnAccess) × IsAccessWord access_text access
+IsGood v access_text Addr = (address : Option IpAddr) × IsAddressIf v.addr address
 
 -- of these options, its value is the first that means nothing
-pub record IsFirstBad (v : Values) (options : List Opt) (option : Opt) : Type 0 where
+pub record IsFirstBad (v : Values) (access_text : List ℕ) (options : List Opt) (option : Opt) : Type 0 where
   pub before : List Opt
   pub after : List Opt
   pub order : options ≡ before ++ option ∷ after
-  pub good_before : All (IsGood v) before
-  pub bad : ¬ IsGood v option
+  pub good_before : All (IsGood v access_text) before
+  pub bad : ¬ IsGood v access_text option
 
 -- a bad value among these options, of which the grants are none
-abbrev pub IsBadAmong : Values → List Opt → QuestionFault → Type 0
-IsBadAmong v options fault = (option : Opt) × (fault ≡ faults.BadValue option) × (option ≢ Grants) × IsFirstBad v options option
+abbrev pub IsBadAmong : Values → List ℕ → List Opt → QuestionFault → Type 0
+IsBadAmong v access_text options fault = (option : Opt) × (fault ≡ faults.BadValue option) × (option ≢ Grants) × IsFirstBad v access_text options option
 
 -- why the values got no question: the first of their faults, or want of memory where each of them is good
 abbrev pub IsFaultIn : Values → QuestionFault → Type 0
 IsFaultIn v (faults.Grants refused) = IsFault v.grants.items refused
-IsFaultIn v (faults.BadValue option) = (option ≢ Grants) × IsFirstBad v all_options option
-IsFaultIn v faults.NoMemory = All (IsGood v) all_options
+IsFaultIn v (faults.BadValue option) = (option ≢ Grants) × IsFirstBad v v.access.items all_options option
+IsFaultIn v faults.NoMemory = All (IsGood v v.access.items) all_options
 
 -- why they ask nothing even so: the first fault behind the grants, or want of memory where there is none
-abbrev pub IsFaultOfAsking : Values → QuestionFault → Type 0
-IsFaultOfAsking v (faults.Grants refused) = ⊥
-IsFaultOfAsking v (faults.BadValue option) = IsBadAmong v asking_options (faults.BadValue option)
-IsFaultOfAsking v faults.NoMemory = All (IsGood v) asking_options
+abbrev pub IsFaultOfAsking : Values → List ℕ → QuestionFault → Type 0
+IsFaultOfAsking v access_text (faults.Grants refused) = ⊥
+IsFaultOfAsking v access_text (faults.BadValue option) = IsBadAmong v access_text asking_options (faults.BadValue option)
+IsFaultOfAsking v access_text faults.NoMemory = All (IsGood v access_text) asking_options
 
 -- what the grants say to the question
 abbrev pub verdict_on : Question → Verdict

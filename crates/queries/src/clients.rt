@@ -1,5 +1,5 @@
 //! Which clients of a cluster may make an access.
-ghost use Rattle.std.specs.Prelude.{◌≡◌, ◌++◌, ℕ, List, IfOk, OnOk};
+ghost use Rattle.std.specs.Prelude.{◌≡◌, ◌++◌, ℕ, List, IfOk, OnOk, map};
 ghost use Rattle.queries.specs.Attempts.{wanted_by};
 ghost use Rattle.queries.specs.Clients.{AnswersWho, Says, SaysFor, is_told, meant, nothing, others_in, others_to, standing_in, unread_in};
 ghost use Rattle.queries.specs.ClientsBy.{wanted_there};
@@ -134,12 +134,9 @@ fn print_client(
 {
     let alloc = *lines.allocator();
     let names = attempt.path.names(alloc)?;
-    let wanted = Wanted {
-        fs,
-        path: names.as_slice(),
-        access: attempt.access,
-    };
-    let (name, attr) = (client.name(), &attempt.attr);
+    let wanted = attempt.wanted(fs, names.as_slice());
+    let name = client.name();
+    let attr = &attempt.attr;
     let Some(text) = client.caps() else {
         let (standing, others) = (Standing::without_grants(), nothing());
         let answer = ClientAnswer {
@@ -169,6 +166,18 @@ fn print_client(
 }
 
 impl Attempt {
+    // What is wanted on this file system, by the names of the path.
+    fn wanted<'a>(&self, fs: &'a FsName, names: &'a [&'a [u8]]) -> Wanted<'a>
+        requires { map (λ name. name.now) names.now ≡ self.now.path }
+        ensures { result ≡ wanted_by self.now fs.now }
+    {
+        Wanted {
+            fs,
+            path: names,
+            access: self.access,
+        }
+    }
+
     // What releases answer otherwise than by this standing, where it is told.
     fn others_in(
         &self,

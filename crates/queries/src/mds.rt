@@ -2,14 +2,15 @@
 ghost use Rattle.std.specs.Prelude.{◌≡◌, IfErr, IfOk};
 ghost use Rattle.queries.specs.Mds.{IsMdsFault, MdsReads, mounts};
 
-use crate::question::Asking;
+use crate::fault::QuestionFault;
+use crate::mds_words::read_several;
+use crate::question::{Asking, Values};
 use release_rules::{
-    Asked, Grant, Grants, Question, Release, Verdict, changes_attributes, client_refuses,
-    mds_verdict, read_grants,
+    Asked, Grant, Grants, Question, Release, Verdict, client_refuses, mds_verdict, read_grants,
 };
 use std::alloc::{AllocError, Global};
 use std::fmt;
-use texts::{mds_lines, mds_object};
+use texts::{MdsAccess, mds_lines, mds_object};
 
 /// A text of grants that a release does not read.
 #[derive(Clone, Copy)]
@@ -82,21 +83,44 @@ pub fn mds_grants(alloc: Global, text: &[u8], release: Release) -> Result<Grants
     }
 }
 
-impl Asking {
-    ghost use Rattle.std.specs.Prelude.{◌≡◌, IfOk, map};
-    ghost use Rattle.queries.specs.Mds.{answer_by, asked_by, lines_by, mds_question, object_by};
+/// What is asked of an MDS, whichever the grants.
+pub struct MdsAsking {
+    /// What is asked for.
+    pub access: MdsAccess,
+    /// Who asks, of which inode. Its access is that, where it is one access, and else to read.
+    pub asking: Asking,
+}
 
-    /// What is asked of an MDS that is asked for this.
-    pub fn of_mds(&self, asked: Asked) -> Question<'_>
-        ensures { result ≡ mds_question self.now asked }
+// Not derived: so the proof of a function that drops one has a single call there.
+impl Drop for MdsAsking {
+    fn drop(self) {
+        let MdsAsking {
+            access: _,
+            asking: _,
+        } = self;
+    }
+}
+
+impl MdsAsking {
+    ghost use Rattle.std.specs.Prelude.{◌≡◌, IfErr, IfOk, map};
+    ghost use Rattle.queries.specs.Mds.{AsksThere, IsFaultThere, answer_by, asked_by, lines_by, object_by};
+
+    /// What the values ask of an MDS, as `Question::read` says of this server, and with the accesses that an MDS alone is asked for.
+    pub fn read(alloc: Global, values: &Values) -> Result<MdsAsking, QuestionFault>
+        ensures ok { IfOk result (AsksThere values.now) }
+        ensures err { IfErr result (IsFaultThere values.now) }
     {
-        Question {
-            fs: &self.fs,
-            caller: &self.caller,
-            path: &self.path,
-            attr: &self.attr,
-            asked,
-            address: self.address,
+        let text = values.access.as_slice();
+        match read_several(text) {
+            Some(access) => {
+                let asking = Asking::read(alloc, values, b"read")?;
+                Ok(MdsAsking { access, asking })
+            }
+            None => {
+                let asking = Asking::read(alloc, values, text)?;
+                let access = MdsAccess::One(asking.access);
+                Ok(MdsAsking { access, asking })
+            }
         }
     }
 
@@ -110,9 +134,9 @@ impl Asking {
         ensures { IfOk result (λ answer. answer ≡ answer_by release self.now grants.now) }
     {
         let switches = release.switches();
-        let question = self.of_mds(Asked::of_access(self.access));
+        let question = self.asking.of_mds(self.access.asked());
         let verdict = mds_verdict(alloc, switches, &question, grants)?;
-        let refused = if mounts(&verdict) && changes_attributes(self.access) {
+        let refused = if mounts(&verdict) && self.access.is_checked_by_client() {
             client_refuses(switches, &question, grants)
         } else {
             None
@@ -128,7 +152,7 @@ impl Asking {
     pub fn mds_lines(&self, alloc: Global, answer: &MdsAnswer) -> Result<Vec<u8>, AllocError>
         ensures { IfOk result (λ lines. lines.items ≡ lines_by self.now answer.now) }
     {
-        let names = self.path.names(alloc)?;
+        let names = self.asking.path.names(alloc)?;
         mds_lines(
             alloc,
             self.access,
@@ -142,15 +166,35 @@ impl Asking {
     pub fn mds_object(&self, alloc: Global, answer: &MdsAnswer) -> Result<Vec<u8>, AllocError>
         ensures { IfOk result (λ line. line.items ≡ object_by self.now answer.now) }
     {
-        let names = self.path.names(alloc)?;
-        let asked = self.asked(names.as_slice());
+        let names = self.asking.path.names(alloc)?;
+        let asked = self.asking.asked(names.as_slice());
         mds_object(
             alloc,
             answer.release,
+            self.access,
             &asked,
             &answer.verdict,
             answer.refused,
         )
+    }
+}
+
+impl Asking {
+    ghost use Rattle.std.specs.Prelude.{◌≡◌, map};
+    ghost use Rattle.queries.specs.Mds.{asked_by, mds_question};
+
+    // What is asked of an MDS that is asked for this.
+    fn of_mds(&self, asked: Asked) -> Question<'_>
+        ensures { result ≡ mds_question self.now asked }
+    {
+        Question {
+            fs: &self.fs,
+            caller: &self.caller,
+            path: &self.path,
+            attr: &self.attr,
+            asked,
+            address: self.address,
+        }
     }
 
     // What is asked of this server, by the names of the path.

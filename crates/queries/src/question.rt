@@ -123,7 +123,7 @@ impl Values {
     // Who asks.
     fn read_caller(&self) -> Result<Caller, QuestionFault>
         ensures ok { IfOk result (IsCaller self.now) }
-        ensures err { IfErr result (IsBadAmong self.now (opt.Uid ∷ opt.Gid ∷ opt.Groups ∷ [])) }
+        ensures err { IfErr result (λ fault. (access_text : List ℕ) → IsBadAmong self.now access_text (opt.Uid ∷ opt.Gid ∷ opt.Groups ∷ []) fault) }
     {
         Ok(Caller {
             uid: read_number(Opt::Uid, self.uid.as_slice())?,
@@ -135,7 +135,7 @@ impl Values {
     // Whose the inode is, and its mode.
     fn read_attr(&self) -> Result<Attr, QuestionFault>
         ensures ok { IfOk result (IsAttr self.now) }
-        ensures err { IfErr result (IsBadAmong self.now (opt.Owner ∷ opt.Group ∷ opt.Mode ∷ [])) }
+        ensures err { IfErr result (λ fault. (access_text : List ℕ) → IsBadAmong self.now access_text (opt.Owner ∷ opt.Group ∷ opt.Mode ∷ []) fault) }
     {
         Ok(Attr {
             uid: read_number(Opt::Owner, self.owner.as_slice())?,
@@ -147,19 +147,23 @@ impl Values {
 
 impl Asking {
     ghost use Rattle.std.specs.Prelude.{IfErr, IfOk};
-    ghost use Rattle.queries.specs.Question.{Asks, IsFaultOfAsking};
+    ghost use Rattle.queries.specs.Question.{AsksBy, IsFaultOfAsking};
 
-    /// What the values ask, but for their grants. They are read in the order of `Opt`, and the fault is that of the first bad one.
-    /// `NoMemory` comes last, and only where each value is good.
-    pub fn read(alloc: Global, values: &Values) -> Result<Asking, QuestionFault>
-        ensures ok { IfOk result (Asks values.now) }
-        ensures err { IfErr result (IsFaultOfAsking values.now) }
+    /// What the values ask, but for their grants, where this text stands for the access. They are read in the order of `Opt`, and the fault is
+    /// that of the first bad one. `NoMemory` comes last, and only where each value is good.
+    pub(crate) fn read(
+        alloc: Global,
+        values: &Values,
+        access_text: &[u8],
+    ) -> Result<Asking, QuestionFault>
+        ensures ok { IfOk result (AsksBy values.now access_text.now) }
+        ensures err { IfErr result (IsFaultOfAsking values.now access_text.now) }
     {
         let fs = FsName::read(values.fs.as_slice()).ok_or(BadValue(Opt::Fs))?;
         let caller = values.read_caller()?;
         let path = read_path(alloc, values.path.as_slice())?;
         let attr = values.read_attr()?;
-        let access = read_access(values.access.as_slice()).ok_or(BadValue(Opt::Access))?;
+        let access = read_access(access_text).ok_or(BadValue(Opt::Access))?;
         let address = read_given_address(&values.addr)?;
         match path {
             Some(path) => Ok(Asking {
@@ -194,7 +198,7 @@ impl Question {
             attr,
             access,
             address: _,
-        } = Asking::read(alloc, values)?;
+        } = Asking::read(alloc, values, values.access.as_slice())?;
         match grants {
             Some(grants) => Ok(Question {
                 grants,

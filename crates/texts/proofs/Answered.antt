@@ -1,7 +1,7 @@
 -- A line that answers a question is that of one answer alone.
 use Rattle.std.proofs.Common.{◌≡◌, ℕ, zero, suc, ◌+◌, ◌<◌, ◌^◌, ◌%◌, ◌==◌, ◌&&◌, inl, inr, Bool, true, false, List, [], ◌∷◌, ◌++◌, drop, refl, sym, ap, ◌∙◌}
 use Rattle.std.proofs.Common.{append_assoc, arith}
-use Rattle.std.specs.Prelude.{bytes_eq, codes, if◌then◌else◌, nat_eq}
+use Rattle.std.specs.Prelude.{bytes_eq, codes, if◌then◌else◌, nat_eq, nat_lt}
 use Rattle.std.specs.Fmt.{decimal}
 use Rattle.std.specs.List.{enumerate_from, flat_map, list_all, starts_with}
 use Rattle.std.specs.Str.Parse.{digits_value}
@@ -19,34 +19,47 @@ use Rattle.capgrant.specs.Rule.{rule_number, rule_word}
 use Rattle.texts.specs.Explaining.{failure_text, failures_text, outcome_text, reason_text}
 use Rattle.texts.specs.Lines.{HasGrant, HasNumber, answer_line}
 use Rattle.texts.specs.Quoting.{is_plain, quoted}
-use Rattle.texts.proofs.Quoted.{bare, bare_to, before_a_space, clash, first_byte, plain_both}
+use Rattle.texts.proofs.Quoted.{bare, bare_to, before_a_space, clash, first_byte, parted_at, plain_both}
 
 -- ---- numbers
 
-abbrev are_plain_below : ℕ → Bool
-are_plain_below zero = true
-are_plain_below (suc n) = is_plain (48 + n) && are_plain_below n
+abbrev pass_below : (ℕ → Bool) → ℕ → Bool
+pass_below test zero = true
+pass_below test (suc n) = test (48 + n) && pass_below test n
 
-plain_below : (n value : ℕ) → are_plain_below n ≡ true → value < n → is_plain (48 + value) ≡ true
-plain_below zero value all below = absurd (omega arith)
-plain_below (suc n) value all below =
-    let parts = and_parts (is_plain (48 + n)) (are_plain_below n) all in
+passes_below : (test : ℕ → Bool) (n value : ℕ) → pass_below test n ≡ true → value < n → test (48 + value) ≡ true
+passes_below test zero value all below = absurd (omega arith)
+passes_below test (suc n) value all below =
+    let parts = and_parts (test (48 + n)) (pass_below test n) all in
     elim (cases_lt value n) [
-      | inl less ↦ plain_below n value parts.1 less
+      | inl less ↦ passes_below test n value parts.1 less
       | inr last ↦ let here : value ≡ n = omega arith in rw here parts.0
     ]
 
-plain_push : (ds : List ℕ) (d : ℕ) → list_all is_plain ds ≡ true → is_plain d ≡ true → list_all is_plain (ds ++ d ∷ []) ≡ true
-plain_push [] d all one = rw one refl
-plain_push (x ∷ ds) d all one =
-    let parts = and_parts (is_plain x) (list_all is_plain ds) all in
-    rw (parts.0, plain_push ds d parts.1 one) refl
+pass_push : (test : ℕ → Bool) (ds : List ℕ) (d : ℕ) → list_all test ds ≡ true → test d ≡ true → list_all test (ds ++ d ∷ []) ≡ true
+pass_push test [] d all one = rw one refl
+pass_push test (x ∷ ds) d all one =
+    let parts = and_parts (test x) (list_all test ds) all in
+    rw (parts.0, pass_push test ds d parts.1 one) refl
+
+-- a test that the ten digits pass
+number_passes : (test : ℕ → Bool) → pass_below test 10 ≡ true → (n : ℕ) → n < 2 ^ 64 → list_all test (decimal n) ≡ true
+number_passes test digits =
+    decimal_by_steps (λ n ds. list_all test ds ≡ true)
+    (λ n below. pass_push test [] (48 + n) refl (passes_below test 10 n digits below))
+    (λ n ds large all. pass_push test ds (48 + n % 10) all (passes_below test 10 (n % 10) digits (omega arith)))
 
 pub plain_number : (n : ℕ) → n < 2 ^ 64 → list_all is_plain (decimal n) ≡ true
-plain_number =
-    decimal_by_steps (λ n ds. list_all is_plain ds ≡ true)
-    (λ n below. plain_push [] (48 + n) refl (plain_below 10 n refl below))
-    (λ n ds large all. plain_push ds (48 + n % 10) all (plain_below 10 (n % 10) refl (omega arith)))
+plain_number = number_passes is_plain refl
+
+abbrev stands_below_colon : ℕ → Bool
+stands_below_colon b = nat_lt b 58
+
+-- a colon ends it
+pub number_to_colon : (m n : ℕ) (s t : List ℕ) → m < 2 ^ 64 → n < 2 ^ 64 → decimal m ++ 58 ∷ s ≡ decimal n ++ 58 ∷ t → (m ≡ n) × (s ≡ t)
+number_to_colon m n s t small also same =
+    let both = parted_at stands_below_colon 58 (decimal m) (decimal n) s t refl (number_passes stands_below_colon refl m small) (number_passes stands_below_colon refl n also) same in
+    (decimal_injective m n small also both.0, both.1)
 
 -- a byte that is not plain ends it
 pub number_to : (end m n : ℕ) (s t : List ℕ) → is_plain end ≡ false → m < 2 ^ 64 → n < 2 ^ 64 → decimal m ++ end ∷ s ≡ decimal n ++ end ∷ t → (m ≡ n) × (s ≡ t)

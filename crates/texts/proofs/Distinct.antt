@@ -23,10 +23,11 @@ use Rattle.texts.specs.Lines.{HasNumber, answer_line}
 use Rattle.texts.specs.PartTexts.{mode_text}
 use Rattle.texts.specs.Quoting.{quoted}
 use Rattle.texts.proofs.Answered as lines
+use Rattle.texts.proofs.Answered.{one_access}
 use Rattle.texts.proofs.Compared.{one_mode}
 use Rattle.texts.proofs.Quoted.{clash}
 use Rattle.texts.specs.Values.{bytes_value, natural, numbers_value, or_null}
-use Rattle.texts.specs.Answers.{AskTheSame, IsAskable, answer_value, is_of_access, other_value, reason_if}
+use Rattle.texts.specs.Answers.{AskOfTheSame, AskTheSame, IsAskable, answer_value, is_of_access, other_value, reason_if}
 use Rattle.texts.specs.Answers.{rule_value, verdict_word}
 use Rattle.texts.specs.Changes.{asked_by, change_value}
 use Rattle.texts.proofs.Spelling.{one_spelling}
@@ -69,11 +70,6 @@ byte_in (string (byte ∷ more)) = byte
 byte_in d = 0
 
 -- ---- accesses and rules: what parts two of them in a line parts them in an object
-
-pub one_access : (a b : Access) → HasNumber a → HasNumber b → access_word a ≡ access_word b → a ≡ b
-one_access a b fit fits same =
-    let small : 0 < 2 ^ 32 = omega arith in
-    (lines.one_answer a b [] [] (Allowed 0) (Allowed 0) fit fits small small (λ i. (codes "allowed " ++ same i ++ codes " ") ++ (quoted [] ++ reason_text (Allowed 0)))).0
 
 -- the line of a denial by a rule of this number and word
 abbrev denial_line : ℕ → List ℕ → List ℕ
@@ -172,9 +168,8 @@ one_other (Some a) (Some b) same =
 
 -- ---- what is asked
 
--- what stands at the keys of a question
-pub record Asks (d : Data) (q : Question) : Type 0 where
-  pub access : value_at (codes "access") d ≡ string (access_word q.access)
+-- what stands at the keys of a question but for what is asked for
+pub record AsksOf (d : Data) (q : Question) : Type 0 where
   pub path : value_at (codes "path") d ≡ bytes_value (path_text q.path)
   pub fs : value_at (codes "fs") d ≡ bytes_value q.fs
   pub uid : value_at (codes "uid") d ≡ natural q.caller.uid
@@ -183,6 +178,30 @@ pub record Asks (d : Data) (q : Question) : Type 0 where
   pub owner : value_at (codes "owner") d ≡ natural q.attr.uid
   pub group : value_at (codes "group") d ≡ natural q.attr.gid
   pub mode : value_at (codes "mode") d ≡ string (mode_text q.attr.mode)
+
+pub one_inode : (q r : Question) (d : Data) → IsAskable q → IsAskable r → AsksOf d q → AsksOf d r → AskOfTheSame q r
+one_inode q r d fit fits p s =
+    let path : path_text q.path ≡ path_text r.path = one_spelling (path_text q.path) (path_text r.path) fit.path fits.path (sym p.path ∙ s.path) in
+    let fs : q.fs ≡ r.fs = one_spelling q.fs r.fs fit.fs fits.fs (sym p.fs ∙ s.fs) in
+    let uid : q.caller.uid ≡ r.caller.uid = ap number_in (sym p.uid ∙ s.uid) in
+    let gid : q.caller.gid ≡ r.caller.gid = ap number_in (sym p.gid ∙ s.gid) in
+    let groups : q.caller.groups ≡ r.caller.groups = one_row_of_numbers q.caller.groups r.caller.groups (sym p.groups ∙ s.groups) in
+    let owner : q.attr.uid ≡ r.attr.uid = ap number_in (sym p.owner ∙ s.owner) in
+    let group : q.attr.gid ≡ r.attr.gid = ap number_in (sym p.group ∙ s.group) in
+    let mode : q.attr.mode ≡ r.attr.mode = one_mode q.attr.mode r.attr.mode fit.mode fits.mode (ap text_in (sym p.mode ∙ s.mode)) in
+    let caller : q.caller ≡ r.caller = λ i. record { uid = uid i; gid = gid i; groups = groups i } in
+    let attr : q.attr ≡ r.attr = λ i. record { uid = owner i; gid = group i; mode = mode i } in
+    (path, fs, caller, attr)
+
+-- and with that
+pub record Asks (d : Data) (q : Question) : Type 0 where
+  pub access : value_at (codes "access") d ≡ string (access_word q.access)
+  pub others : AsksOf d q
+
+pub one_question : (q r : Question) (d : Data) → IsAskable q → IsAskable r → Asks d q → Asks d r → AskTheSame q r
+one_question q r d fit fits p s =
+    let inode = one_inode q r d fit fits p.others s.others in
+    (one_access q.access r.access fit.access fits.access (ap text_in (sym p.access ∙ s.access)), inode.0, inode.1, inode.2, inode.3)
 
 -- and at those of what is worth a word beside its verdict
 record Shows (d : Data) (q : Question) (left : Option ℕ) (others : Others) : Type 0 where
@@ -194,24 +213,9 @@ record Shows (d : Data) (q : Question) (left : Option ℕ) (others : Others) : T
 
 shows : (q : Question) (v : Verdict) (left : Option ℕ) (others : Others) → Shows (answer_value q v left others) q left others
 shows q (Allowed g) left others =
-    record { asks = record { access = refl; path = refl; fs = refl; uid = refl; gid = refl; groups = refl; owner = refl; group = refl; mode = refl }; client = refl; pacific = refl; reef = refl; tentacle = refl }
+    record { asks = record { access = refl; others = record { path = refl; fs = refl; uid = refl; gid = refl; groups = refl; owner = refl; group = refl; mode = refl } }; client = refl; pacific = refl; reef = refl; tentacle = refl }
 shows q (Denied rs) left others =
-    record { asks = record { access = refl; path = refl; fs = refl; uid = refl; gid = refl; groups = refl; owner = refl; group = refl; mode = refl }; client = refl; pacific = refl; reef = refl; tentacle = refl }
-
-pub one_question : (q r : Question) (d : Data) → IsAskable q → IsAskable r → Asks d q → Asks d r → AskTheSame q r
-one_question q r d fit fits p s =
-    let access : q.access ≡ r.access = one_access q.access r.access fit.access fits.access (ap text_in (sym p.access ∙ s.access)) in
-    let path : path_text q.path ≡ path_text r.path = one_spelling (path_text q.path) (path_text r.path) fit.path fits.path (sym p.path ∙ s.path) in
-    let fs : q.fs ≡ r.fs = one_spelling q.fs r.fs fit.fs fits.fs (sym p.fs ∙ s.fs) in
-    let uid : q.caller.uid ≡ r.caller.uid = ap number_in (sym p.uid ∙ s.uid) in
-    let gid : q.caller.gid ≡ r.caller.gid = ap number_in (sym p.gid ∙ s.gid) in
-    let groups : q.caller.groups ≡ r.caller.groups = one_row_of_numbers q.caller.groups r.caller.groups (sym p.groups ∙ s.groups) in
-    let owner : q.attr.uid ≡ r.attr.uid = ap number_in (sym p.owner ∙ s.owner) in
-    let group : q.attr.gid ≡ r.attr.gid = ap number_in (sym p.group ∙ s.group) in
-    let mode : q.attr.mode ≡ r.attr.mode = one_mode q.attr.mode r.attr.mode fit.mode fits.mode (ap text_in (sym p.mode ∙ s.mode)) in
-    let caller : q.caller ≡ r.caller = λ i. record { uid = uid i; gid = gid i; groups = groups i } in
-    let attr : q.attr ≡ r.attr = λ i. record { uid = owner i; gid = group i; mode = mode i } in
-    (access, path, fs, caller, attr)
+    record { asks = record { access = refl; others = record { path = refl; fs = refl; uid = refl; gid = refl; groups = refl; owner = refl; group = refl; mode = refl } }; client = refl; pacific = refl; reef = refl; tentacle = refl }
 
 pub one_answer : (q r : Question) (v w : Verdict) (left also : Option ℕ) (others further : Others) → IsAskable q → IsAskable r → answer_value q v left others ≡ answer_value r w also further
     → AskTheSame q r × (v ≡ w) × (left ≡ also) × (others ≡ further)
@@ -237,7 +241,7 @@ record Changes (d : Data) (word : List ℕ) (w : Witness) : Type 0 where
 
 changes : (change : List ℕ) (w : Witness) → Changes (change_value change w) change w
 changes change w =
-    record { asks = record { access = refl; path = refl; fs = refl; uid = refl; gid = refl; groups = refl; owner = refl; group = refl; mode = refl }; change = refl; grant = refl }
+    record { asks = record { access = refl; others = record { path = refl; fs = refl; uid = refl; gid = refl; groups = refl; owner = refl; group = refl; mode = refl } }; change = refl; grant = refl }
 
 pub one_change : (x y : List ℕ) (v w : Witness) → IsAskable (asked_by v) → IsAskable (asked_by w) → change_value x v ≡ change_value y w → (x ≡ y) × AskTheSame (asked_by v) (asked_by w) × (v.grant ≡ w.grant)
 one_change x y v w fit fits same =

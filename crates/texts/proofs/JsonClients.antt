@@ -15,7 +15,8 @@ use Rattle.texts.proofs.Quoted.{clash}
 use Rattle.texts.specs.Values.{bytes_value, natural, or_null}
 use Rattle.texts.specs.Answers.{other_value, rules_value}
 use Rattle.texts.specs.Standings.{AskAlike, IsWanted, standing_value}
-use Rattle.texts.proofs.Distinct.{byte_in, number_in, one_access, one_other, one_row, some_in, text_in, value_at}
+use Rattle.texts.proofs.Answered.{one_access}
+use Rattle.texts.proofs.Distinct.{byte_in, number_in, one_other, one_row, some_in, text_in, value_at}
 use Rattle.texts.proofs.Spelling.{one_spelling}
 
 -- the words of standings differ in these

@@ -81,7 +81,7 @@ record Undoes (d : Data) (w : Witness) : Type 0 where
 
 undoes : (grant : ℕ) (w : Witness) → Undoes (undone_value grant w) w
 undoes grant w =
-    record { asks = record { access = refl; path = refl; fs = refl; uid = refl; gid = refl; groups = refl; owner = refl; group = refl; mode = refl }; allowed = refl }
+    record { asks = record { access = refl; others = record { path = refl; fs = refl; uid = refl; gid = refl; groups = refl; owner = refl; group = refl; mode = refl } }; allowed = refl }
 
 one_undoing : (m n : ℕ) (v w : Witness) → IsAskable (asked_by v) → IsAskable (asked_by w) → undone_value m v ≡ undone_value n w → TellTheSame v w
 one_undoing m n v w fit fits same =
@@ -166,7 +166,7 @@ record Refuses (d : Data) (w : Witness) : Type 0 where
 
 refuses : (grant : ℕ) (releases : Releases) (w : Witness) → Refuses (refused_value grant releases w) w
 refuses grant releases w =
-    record { asks = record { access = refl; path = refl; fs = refl; uid = refl; gid = refl; groups = refl; owner = refl; group = refl; mode = refl }; refused_by = refl }
+    record { asks = record { access = refl; others = record { path = refl; fs = refl; uid = refl; gid = refl; groups = refl; owner = refl; group = refl; mode = refl } }; refused_by = refl }
 
 one_refusal : (m n : ℕ) (a b : Releases) (v w : Witness) → IsAskable (asked_by v) → IsAskable (asked_by w) → refused_value m a v ≡ refused_value n b w → (a ≡ b) × TellTheSame v w
 one_refusal m n a b v w fit fits same =

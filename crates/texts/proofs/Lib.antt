@@ -18,6 +18,7 @@ pub mod JsonLinted
 pub mod Cuts
 pub mod KnownBytes
 pub mod Flags
+pub mod MdsWords
 pub mod MdsDistinct
 pub mod MdsAnswered
 pub mod Beside

@@ -5,20 +5,20 @@ use Rattle.std.specs.Fmt.{decimal}
 use Rattle.std.specs.List.{enumerate_from, flat_map}
 use Rattle.std.proofs.lemmas.Fmt.{decimal_injective}
 use Rattle.std.proofs.lemmas.List.{append_cancel_left}
-use Rattle.capgrant.specs.declared.access.Access.{Access}
-use Rattle.capgrant.specs.Access.{access_word}
 use Rattle.release_rules.specs.declared.rule.Rule.{Rule}
 use Rattle.release_rules.specs.declared.rule.Rule.TheVariants as rules
 use Rattle.release_rules.specs.declared.verdict.Verdict.{Verdict}
 use Rattle.release_rules.specs.declared.verdict.Verdict.TheVariants.{Allowed, CannotMount, Denied, DependsOnAddress}
 use Rattle.release_rules.specs.Rules.{rule_number, rule_word}
+use Rattle.texts.specs.declared.mds_asked.MdsAccess.{MdsAccess}
 use Rattle.texts.specs.Explaining.{path_text}
-use Rattle.texts.specs.Lines.{HasNumber}
 use Rattle.texts.specs.Mds.{mds_failure, mds_failures, mds_outcome, mds_reason, mds_text, refused_line}
-use Rattle.texts.specs.MdsTold.{HasMdsGrant, HasRefusal}
+use Rattle.texts.specs.MdsTold.{HasSmallNumbers, HasMdsGrant, HasRefusal}
+use Rattle.texts.specs.MdsAsked.{mds_access_word}
 use Rattle.texts.specs.Quoting.{quoted}
-use Rattle.texts.proofs.Answered.{number_and, number_to, parted, plain_number}
+use Rattle.texts.proofs.Answered.{number_and, number_to, plain_number}
 use Rattle.texts.proofs.MdsDistinct.{has_number, numbered}
+use Rattle.texts.proofs.MdsWords.{parted_there}
 use Rattle.texts.proofs.Quoted.{bare, clash, first_byte}
 
 -- ---- rules
@@ -100,24 +100,24 @@ one_refusal (Some g) (Some h) small also same =
 
 -- ---- all of it
 
-in_parts : (a : Access) (p : List (List ℕ)) (v : Verdict) (refused : Option ℕ)
-    → mds_text a p v refused ≡ mds_outcome v ++ (access_word a ++ 32 ∷ (quoted (path_text p) ++ (mds_reason v ++ 10 ∷ refused_line refused)))
+in_parts : (a : MdsAccess) (p : List (List ℕ)) (v : Verdict) (refused : Option ℕ)
+    → mds_text a p v refused ≡ mds_outcome v ++ (mds_access_word a ++ 32 ∷ (quoted (path_text p) ++ (mds_reason v ++ 10 ∷ refused_line refused)))
 in_parts a p v refused =
     let path : List ℕ = quoted (path_text p) in
     let end : List ℕ = codes "\n" ++ refused_line refused in
-    append_assoc (mds_outcome v) (access_word a ++ (codes " " ++ (path ++ mds_reason v))) end
+    append_assoc (mds_outcome v) (mds_access_word a ++ (codes " " ++ (path ++ mds_reason v))) end
     ∙ ap (λ (r : List ℕ). mds_outcome v ++ r)
-    (append_assoc (access_word a) (codes " " ++ (path ++ mds_reason v)) end ∙ ap (λ (r : List ℕ). access_word a ++ 32 ∷ r) (append_assoc path (mds_reason v) end))
+    (append_assoc (mds_access_word a) (codes " " ++ (path ++ mds_reason v)) end ∙ ap (λ (r : List ℕ). mds_access_word a ++ 32 ∷ r) (append_assoc path (mds_reason v) end))
 
-module _ (a b : Access) (p q : List (List ℕ)) (refused also : Option ℕ) (fits : HasNumber a) (too : HasNumber b) (small : HasRefusal refused) (likewise : HasRefusal also) where
+module _ (a b : MdsAccess) (p q : List (List ℕ)) (refused also : Option ℕ) (fits : HasSmallNumbers a) (too : HasSmallNumbers b) (small : HasRefusal refused) (likewise : HasRefusal also) where
   abbrev Told : Verdict → Verdict → Type 0
   Told v w = (a ≡ b) × (path_text p ≡ path_text q) × (v ≡ w) × (refused ≡ also)
 
   -- behind one outcome
-  behind : (outcome s t : List ℕ) → outcome ++ (access_word a ++ 32 ∷ (quoted (path_text p) ++ 32 ∷ s)) ≡ outcome ++ (access_word b ++ 32 ∷ (quoted (path_text q) ++ 32 ∷ t))
+  behind : (outcome s t : List ℕ) → outcome ++ (mds_access_word a ++ 32 ∷ (quoted (path_text p) ++ 32 ∷ s)) ≡ outcome ++ (mds_access_word b ++ 32 ∷ (quoted (path_text q) ++ 32 ∷ t))
       → (a ≡ b) × (path_text p ≡ path_text q) × (s ≡ t)
   behind outcome s t same =
-      parted a b (path_text p) (path_text q) s t fits too (append_cancel_left outcome (access_word a ++ 32 ∷ (quoted (path_text p) ++ 32 ∷ s)) (access_word b ++ 32 ∷ (quoted (path_text q) ++ 32 ∷ t)) same)
+      parted_there a b (path_text p) (path_text q) s t fits too (append_cancel_left outcome (mds_access_word a ++ 32 ∷ (quoted (path_text p) ++ 32 ∷ s)) (mds_access_word b ++ 32 ∷ (quoted (path_text q) ++ 32 ∷ t)) same)
 
   by_number : (g h : ℕ) → g < 2 ^ 64 → h < 2 ^ 64 → (v w : Verdict) (make : ℕ → Verdict) → v ≡ make g → w ≡ make h
       → (a ≡ b) × (path_text p ≡ path_text q) × (codes "grant " ++ (decimal g ++ 10 ∷ refused_line refused) ≡ codes "grant " ++ (decimal h ++ 10 ∷ refused_line also)) → Told v w
@@ -126,7 +126,7 @@ module _ (a b : Access) (p q : List (List ℕ)) (refused also : Option ℕ) (fit
       (all.0, all.1, is ∙ ap make number.0 ∙ sym too_is, one_refusal refused also small likewise number.1)
 
   by_verdicts : (v w : Verdict) → HasMdsGrant v → HasMdsGrant w
-      → mds_outcome v ++ (access_word a ++ 32 ∷ (quoted (path_text p) ++ (mds_reason v ++ 10 ∷ refused_line refused))) ≡ mds_outcome w ++ (access_word b ++ 32 ∷ (quoted (path_text q) ++ (mds_reason w ++ 10 ∷ refused_line also)))
+      → mds_outcome v ++ (mds_access_word a ++ 32 ∷ (quoted (path_text p) ++ (mds_reason v ++ 10 ∷ refused_line refused))) ≡ mds_outcome w ++ (mds_access_word b ++ 32 ∷ (quoted (path_text q) ++ (mds_reason w ++ 10 ∷ refused_line also)))
       → Told v w
   by_verdicts (Allowed g) (Allowed h) low high same = by_number g h low high (Allowed g) (Allowed h) Allowed refl refl (behind (codes "allowed ") (codes "grant " ++ (decimal g ++ 10 ∷ refused_line refused)) (codes "grant " ++ (decimal h ++ 10 ∷ refused_line also)) same)
   by_verdicts (Allowed g) (DependsOnAddress h) low high same = clash 97 100 (omega arith) (ap first_byte same)
@@ -152,7 +152,7 @@ module _ (a b : Access) (p q : List (List ℕ)) (refused also : Option ℕ) (fit
       let list = one_list rs qs (refused_line refused) (refused_line also) all.2 in
       (all.0, all.1, ap Denied list.0, one_refusal refused also small likewise list.1)
 
-pub one_mds_text : (a b : Access) (p q : List (List ℕ)) (v w : Verdict) (refused also : Option ℕ) → HasNumber a → HasNumber b → HasMdsGrant v → HasMdsGrant w → HasRefusal refused → HasRefusal also
+pub one_mds_text : (a b : MdsAccess) (p q : List (List ℕ)) (v w : Verdict) (refused also : Option ℕ) → HasSmallNumbers a → HasSmallNumbers b → HasMdsGrant v → HasMdsGrant w → HasRefusal refused → HasRefusal also
     → mds_text a p v refused ≡ mds_text b q w also → (a ≡ b) × (path_text p ≡ path_text q) × (v ≡ w) × (refused ≡ also)
 one_mds_text a b p q v w refused also fits too low high small likewise same =
     by_verdicts a b p q refused also fits too small likewise v w low high (sym (in_parts a p v refused) ∙ same ∙ in_parts b q w also)

@@ -13,10 +13,14 @@ use Rattle.release_rules.specs.declared.verdict.Verdict.{Verdict}
 use Rattle.release_rules.specs.declared.verdict.Verdict.TheVariants.{Allowed, CannotMount, Denied, DependsOnAddress}
 use Rattle.release_rules.specs.Releases.{version_of}
 use Rattle.release_rules.specs.Rules.{rule_number}
-use Rattle.texts.specs.Answers.{AskTheSame, IsAskable}
+use Rattle.texts.specs.declared.mds_asked.MdsAccess.{MdsAccess}
+use Rattle.texts.specs.Answers.{AskOfTheSame, IsAskable}
 use Rattle.texts.specs.MdsAnswers.{failures_value, grant_value, mds_rule_value, mds_rules_value, mds_value, mds_word}
+use Rattle.texts.specs.MdsAsked.{mds_access_word}
+use Rattle.texts.specs.MdsTold.{HasSmallNumbers}
 use Rattle.texts.specs.Values.{natural, or_null}
-use Rattle.texts.proofs.Distinct.{Asks, number_in, one_left, one_question, some_in, text_in, value_at}
+use Rattle.texts.proofs.Distinct.{AsksOf, number_in, one_inode, one_left, some_in, text_in, value_at}
+use Rattle.texts.proofs.MdsWords.{one_word}
 use Rattle.texts.proofs.Quoted.{clash}
 
 -- ---- rules
@@ -98,17 +102,19 @@ one_verdict (Denied rs) (Denied qs) word grant failures = ap Denied (one_row 1 r
 -- ---- all of it
 
 -- what stands at the keys
-record Shows (d : Data) (release : Release) (q : Question) (v : Verdict) (refused : Option ℕ) : Type 0 where
-  asks : Asks d q
+record Shows (d : Data) (release : Release) (x : MdsAccess) (q : Question) (v : Verdict) (refused : Option ℕ) : Type 0 where
+  others : AsksOf d q
+  access : value_at (codes "access") d ≡ string (mds_access_word x)
   mds : value_at (codes "mds") d ≡ string (version_of release)
   verdict : value_at (codes "verdict") d ≡ string (mds_word v)
   grant : value_at (codes "grant") d ≡ grant_value v
   failures : value_at (codes "rules") d ≡ failures_value v
   client : value_at (codes "refused_by_client") d ≡ or_null natural refused
 
-shows : (release : Release) (q : Question) (v : Verdict) (refused : Option ℕ) → Shows (mds_value release q v refused) release q v refused
-shows release q v refused = record {
-  asks = record { access = refl; path = refl; fs = refl; uid = refl; gid = refl; groups = refl; owner = refl; group = refl; mode = refl };
+shows : (release : Release) (x : MdsAccess) (q : Question) (v : Verdict) (refused : Option ℕ) → Shows (mds_value release x q v refused) release x q v refused
+shows release x q v refused = record {
+  others = record { path = refl; fs = refl; uid = refl; gid = refl; groups = refl; owner = refl; group = refl; mode = refl };
+  access = refl;
   mds = refl;
   verdict = refl;
   grant = refl;
@@ -116,13 +122,14 @@ shows release q v refused = record {
   client = refl;
 }
 
-pub one_mds_answer : (a b : Release) (q r : Question) (v w : Verdict) (refused also : Option ℕ) → IsAskable q → IsAskable r → mds_value a q v refused ≡ mds_value b r w also
-    → (a ≡ b) × AskTheSame q r × (v ≡ w) × (refused ≡ also)
-one_mds_answer a b q r v w refused also fit fits same =
-    let p = shows a q v refused in
-    let s : Shows (mds_value a q v refused) b r w also = subst (λ (d : Data). Shows d b r w also) (sym same) (shows b r w also) in (
+pub one_mds_answer : (a b : Release) (x y : MdsAccess) (q r : Question) (v w : Verdict) (refused also : Option ℕ) → HasSmallNumbers x → HasSmallNumbers y → IsAskable q → IsAskable r → mds_value a x q v refused ≡ mds_value b y r w also
+    → (a ≡ b) × (x ≡ y) × AskOfTheSame q r × (v ≡ w) × (refused ≡ also)
+one_mds_answer a b x y q r v w refused also small too fit fits same =
+    let p = shows a x q v refused in
+    let s : Shows (mds_value a x q v refused) b y r w also = subst (λ (d : Data). Shows d b y r w also) (sym same) (shows b y r w also) in (
       sym (has_version a) ∙ ap (λ (d : Data). asked_of (text_in d)) (sym p.mds ∙ s.mds) ∙ has_version b,
-      one_question q r (mds_value a q v refused) fit fits p.asks s.asks,
+      one_word x y small too (ap text_in (sym p.access ∙ s.access)),
+      one_inode q r (mds_value a x q v refused) fit fits p.others s.others,
       one_verdict v w (ap text_in (sym p.verdict ∙ s.verdict)) (sym p.grant ∙ s.grant) (sym p.failures ∙ s.failures),
       one_left refused also (sym p.client ∙ s.client),
     )

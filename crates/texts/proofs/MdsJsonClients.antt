@@ -15,7 +15,8 @@ use Rattle.texts.specs.MdsStandings.{DecidesIf, IsStanding, mds_standing_value, 
 use Rattle.texts.specs.PartTexts.{mode_text}
 use Rattle.texts.specs.Standings.{AskAlike, IsWanted}
 use Rattle.texts.specs.Values.{bytes_value, natural, or_null}
-use Rattle.texts.proofs.Distinct.{number_in, one_access, one_left, text_in, value_at}
+use Rattle.texts.proofs.Answered.{one_access}
+use Rattle.texts.proofs.Distinct.{number_in, one_left, text_in, value_at}
 use Rattle.texts.proofs.JsonClients.{if_known, one_known}
 use Rattle.texts.proofs.MdsDistinct.{asked_of, has_version, one_row}
 use Rattle.texts.proofs.Quoted.{clash}

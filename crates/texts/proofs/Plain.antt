@@ -47,6 +47,8 @@ use Rattle.texts.specs.Values.{IsPlain, Table, bytes_value, natural, numbers_val
 use Rattle.texts.specs.Answers.{allowing_table, answer_value, attr_table, caller_table, is_of_access, other_value, others_table}
 use Rattle.texts.specs.Answers.{place_table, reason_if, reason_word, remarks_table, rule_value, rules_value, verdict_table}
 use Rattle.texts.specs.Answers.{verdict_word, with_question}
+use Rattle.texts.specs.declared.mds_asked.MdsAccess.{MdsAccess}
+use Rattle.texts.specs.MdsAsked.{mds_access_word}
 use Rattle.texts.specs.MdsAnswers.{failures_value, grant_value, mds_rule_value, mds_rules_value, mds_table, mds_value, mds_word}
 use Rattle.texts.specs.Changes.{change_table, change_value, with_witness}
 use Rattle.policy_analysis.specs.declared.releases.Releases.{Releases}
@@ -208,14 +210,14 @@ flat-failures_value (mds.Allowed grant) = flat-null
 flat-failures_value (mds.DependsOnAddress grant) = flat-null
 flat-failures_value (mds.Denied rules) = flat-mds_rules rules
 
-flat-mds : (release : Release) (v : MdsVerdict) (refused : Option ℕ) → AllFlat 2 (mds_table release v refused)
-flat-mds release v refused =
-    (flat-string 2 (version_of release), (flat-string 2 (mds_word v), (flat-grant_value v, (flat-failures_value v, (flat-or_null 2 natural (flat-natural 2) refused, tt)))))
+flat-mds : (release : Release) (access : MdsAccess) (v : MdsVerdict) (refused : Option ℕ) → AllFlat 2 (mds_table release access v refused)
+flat-mds release access v refused =
+    (flat-string 2 (mds_access_word access), (flat-string 2 (version_of release), (flat-string 2 (mds_word v), (flat-grant_value v, (flat-failures_value v, (flat-or_null 2 natural (flat-natural 2) refused, tt))))))
 
-pub plain-mds : (release : Release) (q : Question) (v : MdsVerdict) (refused : Option ℕ) → IsPlain (mds_value release q v refused)
-plain-mds release q v refused =
+pub plain-mds : (release : Release) (access : MdsAccess) (q : Question) (v : MdsVerdict) (refused : Option ℕ) → IsPlain (mds_value release access q v refused)
+plain-mds release access q v refused =
     let asked = with_question q no_members in
-    plain-object (with_all (mds_table release v refused) asked) (flat-with_all 2 (mds_table release v refused) asked (flat-mds release v refused) (flat-question q no_members (none 2)))
+    plain-object (with_all (mds_table release access v refused) asked) (flat-with_all 2 (mds_table release access v refused) asked (flat-mds release access v refused) (flat-question q no_members (none 2)))
 
 -- ---- those of pieces
 
@@ -225,7 +227,7 @@ flat-piece (Number n) = flat-natural 2 n
 flat-piece (Word text) = flat-string 2 text.now
 flat-piece (Bytes bytes) = flat-bytes bytes.now
 flat-piece (Numbers numbers) = flat-numbers numbers.now
-flat-piece (Access access) = flat-string 2 (access_word access)
+flat-piece (Access access) = flat-string 2 (mds_access_word access)
 flat-piece (Path path) = flat-bytes (path_text (map (λ name. name.now) path.now))
 flat-piece (Caps caps) = flat-bytes (text_of caps)
 flat-piece (Rules rules) = flat-rules rules.now

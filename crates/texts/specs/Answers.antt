@@ -118,7 +118,11 @@ pub record IsAskable (q : Question) : Type 0 where
   pub fs : IsBytes q.fs
   pub mode : q.attr.mode < 2 ^ 12
 
--- they ask for the same; of two paths the text is
+-- the same caller asks them of the same inode; of two paths the text is
+abbrev pub AskOfTheSame : Question → Question → Type 0
+AskOfTheSame q r = (path_text q.path ≡ path_text r.path) × (q.fs ≡ r.fs) × (q.caller ≡ r.caller) × (q.attr ≡ r.attr)
+
+-- they ask for the same
 abbrev pub AskTheSame : Question → Question → Type 0
 AskTheSame q r = (q.access ≡ r.access) × (path_text q.path ≡ path_text r.path) × (q.fs ≡ r.fs) × (q.caller ≡ r.caller) × (q.attr ≡ r.attr)
 

@@ -20,5 +20,6 @@ pub mod ScriptLines
 pub mod Watched
 pub mod Mds
 pub mod MdsAnswers
+pub mod MdsAsked
 pub mod MdsTold
 pub mod MdsStandings

@@ -2,9 +2,7 @@
 use Rattle.std.specs.Prelude.{ℕ, Bool, ◌==◌, Option, Some, None, List, [], ◌∷◌, ◌++◌, length, bytes_eq, codes, if◌then◌else◌}
 use Rattle.std.specs.Fmt.{decimal}
 use Rattle.std.specs.List.{enumerate_from, join_by}
-use Rattle.capgrant.specs.declared.access.Access.{Access}
 use Rattle.capgrant.specs.declared.answer.Verdict.{Verdict as Answer}
-use Rattle.capgrant.specs.Access.{access_word}
 use Rattle.capgrant.specs.Question.{Question}
 use Rattle.release_rules.specs.declared.beside.Otherwise.{Otherwise}
 use Rattle.release_rules.specs.declared.beside.Others.{Others}
@@ -15,7 +13,9 @@ use Rattle.release_rules.specs.declared.rule.Rule.{Rule}
 use Rattle.release_rules.specs.declared.verdict.Verdict.{Verdict}
 use Rattle.release_rules.specs.declared.verdict.Verdict.TheVariants.{Allowed, CannotMount, Denied, DependsOnAddress}
 use Rattle.release_rules.specs.Rules.{rule_number, rule_word}
+use Rattle.texts.specs.declared.mds_asked.MdsAccess.{MdsAccess}
 use Rattle.texts.specs.Explaining.{path_text, verdict_text}
+use Rattle.texts.specs.MdsAsked.{mds_access_word}
 use Rattle.texts.specs.Quoting.{quoted}
 use Rattle.texts.specs.Remarks.{left_line}
 
@@ -45,8 +45,8 @@ mds_reason (DependsOnAddress grant) = codes " grant " ++ decimal grant
 mds_reason (Denied rules) = codes " " ++ mds_failures rules
 
 -- what the MDS says of the access to the inode with this path
-abbrev pub mds_line : Access → List (List ℕ) → Verdict → List ℕ
-mds_line access path verdict = mds_outcome verdict ++ (access_word access ++ (codes " " ++ (quoted (path_text path) ++ mds_reason verdict)))
+abbrev pub mds_line : MdsAccess → List (List ℕ) → Verdict → List ℕ
+mds_line access path verdict = mds_outcome verdict ++ (mds_access_word access ++ (codes " " ++ (quoted (path_text path) ++ mds_reason verdict)))
 
 -- a line for the grant by which the client itself refuses, where it does
 abbrev pub refused_line : Option ℕ → List ℕ
@@ -54,7 +54,7 @@ refused_line None = []
 refused_line (Some grant) = codes "the client itself refuses to change attributes (grant " ++ (decimal grant ++ codes ")\n")
 
 -- both
-abbrev pub mds_text : Access → List (List ℕ) → Verdict → Option ℕ → List ℕ
+abbrev pub mds_text : MdsAccess → List (List ℕ) → Verdict → Option ℕ → List ℕ
 mds_text access path verdict refused = mds_line access path verdict ++ (codes "\n" ++ refused_line refused)
 
 -- ---- where releases answer otherwise

@@ -10,7 +10,10 @@ use Rattle.release_rules.specs.declared.verdict.Verdict.{Verdict}
 use Rattle.release_rules.specs.declared.verdict.Verdict.TheVariants.{Allowed, CannotMount, Denied, DependsOnAddress}
 use Rattle.release_rules.specs.Releases.{version_of}
 use Rattle.release_rules.specs.Rules.{rule_number, rule_word}
-use Rattle.texts.specs.Answers.{AskTheSame, IsAskable, failure_value, with_question}
+use Rattle.texts.specs.declared.mds_asked.MdsAccess.{MdsAccess}
+use Rattle.texts.specs.Answers.{AskOfTheSame, IsAskable, failure_value, with_question}
+use Rattle.texts.specs.MdsAsked.{mds_access_word}
+use Rattle.texts.specs.MdsTold.{HasSmallNumbers}
 use Rattle.texts.specs.Values.{Table, json_line, natural, object_of, or_null, with_all}
 
 -- by which rule the grant of this number fails
@@ -39,21 +42,21 @@ abbrev pub failures_value : Verdict → Data
 failures_value (Denied rules) = mds_rules_value rules
 failures_value verdict = null
 
--- which MDS it is, what it says, and by which grant the client itself refuses
-abbrev pub mds_table : Release → Verdict → Option ℕ → Table
-mds_table release verdict refused =
-    (codes "mds", string (version_of release)) ∷ (codes "verdict", string (mds_word verdict)) ∷ (codes "grant", grant_value verdict) ∷ (codes "rules", failures_value verdict)
+-- what it is asked for, which MDS it is, what it says, and by which grant the client itself refuses
+abbrev pub mds_table : Release → MdsAccess → Verdict → Option ℕ → Table
+mds_table release access verdict refused =
+    (codes "access", string (mds_access_word access)) ∷ (codes "mds", string (version_of release)) ∷ (codes "verdict", string (mds_word verdict)) ∷ (codes "grant", grant_value verdict) ∷ (codes "rules", failures_value verdict)
     ∷ (codes "refused_by_client", or_null natural refused) ∷ []
 
--- all of it
-abbrev pub mds_value : Release → Question → Verdict → Option ℕ → Data
-mds_value release q verdict refused = object (with_all (mds_table release verdict refused) (with_question q no_members))
+-- all of it, of a question whose access is this
+abbrev pub mds_value : Release → MdsAccess → Question → Verdict → Option ℕ → Data
+mds_value release access q verdict refused = object (with_all (mds_table release access verdict refused) (with_question q no_members))
 
 -- as a line
-abbrev pub mds_object : Release → Question → Verdict → Option ℕ → List ℕ
-mds_object release q verdict refused = json_line (mds_value release q verdict refused)
+abbrev pub mds_object : Release → MdsAccess → Question → Verdict → Option ℕ → List ℕ
+mds_object release access q verdict refused = json_line (mds_value release access q verdict refused)
 
 -- answers that are the same object are the same answer of the same release to the same question
 abbrev pub OneMdsAnswer : Type 0
-OneMdsAnswer = (a b : Release) (q r : Question) (v w : Verdict) (refused also : Option ℕ) → IsAskable q → IsAskable r
-    → mds_value a q v refused ≡ mds_value b r w also → (a ≡ b) × AskTheSame q r × (v ≡ w) × (refused ≡ also)
+OneMdsAnswer = (a b : Release) (x y : MdsAccess) (q r : Question) (v w : Verdict) (refused also : Option ℕ) → HasSmallNumbers x → HasSmallNumbers y → IsAskable q → IsAskable r
+    → mds_value a x q v refused ≡ mds_value b y r w also → (a ≡ b) × (x ≡ y) × AskOfTheSame q r × (v ≡ w) × (refused ≡ also)

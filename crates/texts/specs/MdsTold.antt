@@ -1,6 +1,5 @@
 -- What the lines by a release, and those beside an answer, tell.
 use Rattle.std.specs.Prelude.{◌≡◌, ℕ, ◌<◌, ◌^◌, List, Option, IfSome}
-use Rattle.capgrant.specs.declared.access.Access.{Access}
 use Rattle.capgrant.specs.declared.answer.Verdict.{Verdict as Answer}
 use Rattle.capgrant.specs.Question.{Question}
 use Rattle.release_rules.specs.declared.beside.Otherwise.{Otherwise}
@@ -9,8 +8,16 @@ use Rattle.release_rules.specs.declared.verdict.Verdict.{Verdict}
 use Rattle.release_rules.specs.declared.verdict.Verdict.TheVariants.{Allowed, CannotMount, Denied, DependsOnAddress}
 use Rattle.texts.specs.Explaining.{path_text}
 use Rattle.texts.specs.Lines.{HasGrant, HasNumber}
+use Rattle.texts.specs.declared.mds_asked.MdsAccess.{MdsAccess}
+use Rattle.texts.specs.declared.mds_asked.MdsAccess.TheVariants.{Mask, One, ReadWrite}
 use Rattle.texts.specs.Mds.{beside_text, mds_text}
 use Rattle.texts.specs.Remarked.{AreLeftAlike}
+
+-- the numbers of what is asked for have 32 bits
+abbrev pub HasSmallNumbers : MdsAccess → Type 0
+HasSmallNumbers (One access) = HasNumber access
+HasSmallNumbers ReadWrite = Unit {0}
+HasSmallNumbers (Mask bits uid gid) = (bits < 2 ^ 32) × (uid < 2 ^ 32) × (gid < 2 ^ 32)
 
 -- its grant, if it has one, is counted by 64 bits
 abbrev pub HasMdsGrant : Verdict → Type 0
@@ -25,7 +32,7 @@ HasRefusal refused = IfSome refused (λ grant. grant < 2 ^ 64)
 
 -- texts that are the same tell the same access, path, verdict and refusal; of paths the text counts
 abbrev pub OneMdsText : Type 0
-OneMdsText = (a b : Access) (p q : List (List ℕ)) (v w : Verdict) (refused also : Option ℕ) → HasNumber a → HasNumber b → HasMdsGrant v → HasMdsGrant w → HasRefusal refused → HasRefusal also
+OneMdsText = (a b : MdsAccess) (p q : List (List ℕ)) (v w : Verdict) (refused also : Option ℕ) → HasSmallNumbers a → HasSmallNumbers b → HasMdsGrant v → HasMdsGrant w → HasRefusal refused → HasRefusal also
     → mds_text a p v refused ≡ mds_text b q w also → (a ≡ b) × (path_text p ≡ path_text q) × (v ≡ w) × (refused ≡ also)
 
 -- ---- beside an answer

@@ -3,12 +3,12 @@ use Rattle.std.specs.Prelude.{List, map, ℕ}
 use Rattle.std.specs.Borrow.{Bor}
 use Rattle.serde_json.specs.Data.{Data, null, string}
 use Rattle.capbits.specs.Text.{text_of}
-use Rattle.capgrant.specs.Access.{access_word}
 use Rattle.texts.specs.Explaining.{path_text}
 use Rattle.texts.specs.declared.table.Piece.{Piece}
 use Rattle.texts.specs.declared.table.Piece.TheVariants.{Access, Bytes, Caps, MdsRules, Null, Number, Numbers, Path, Rules, Word}
 use Rattle.texts.specs.Answers.{rules_value}
 use Rattle.texts.specs.MdsAnswers.{mds_rules_value}
+use Rattle.texts.specs.MdsAsked.{mds_access_word}
 use Rattle.texts.specs.Values.{bytes_value, natural, numbers_value, object_of}
 
 abbrev pub piece_value : Piece → Data
@@ -17,7 +17,7 @@ piece_value (Number n) = natural n
 piece_value (Word text) = string text.now
 piece_value (Bytes bytes) = bytes_value bytes.now
 piece_value (Numbers numbers) = numbers_value numbers.now
-piece_value (Access access) = string (access_word access)
+piece_value (Access access) = string (mds_access_word access)
 piece_value (Path path) = bytes_value (path_text (map (λ name. name.now) path.now))
 piece_value (Caps caps) = bytes_value (text_of caps)
 piece_value (Rules rules) = rules_value rules.now

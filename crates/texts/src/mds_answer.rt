@@ -8,6 +8,7 @@ ghost use Rattle.texts.specs.Pieces.{piece_value};
 ghost use Rattle.texts.specs.Values.{ReadsBack, natural, or_null, with_all};
 
 use crate::explain_object::verdict_word;
+use crate::mds_asked::MdsAccess;
 use crate::question_object::put_question;
 use crate::table::{Members, Piece, print_object, put_all};
 use capgrant::Question;
@@ -16,36 +17,40 @@ use serde_json::{Map, Value, put};
 use std::alloc::{AllocError, Global};
 
 /// The object that says what is asked, of which release, what its MDS says and by which grant or rules, and by which grant the client itself
-/// refuses to change attributes. It is a line, with its line feed. Only memory can be missing.
+/// refuses to change attributes. What is asked for is told in the place of the access of the question. It is a line, with its line feed. Only
+/// memory can be missing.
 pub fn mds_object(
     alloc: Global,
     release: Release,
+    access: MdsAccess,
     question: &Question<'_>,
     verdict: &Verdict,
     refused: Option<usize>,
 ) -> Result<Vec<u8>, AllocError>
-    ensures line { IfOk result (λ line. line.items ≡ mds_object release question.now verdict.now refused) }
-    ensures reads { OnOk result (ReadsBack (mds_value release question.now verdict.now refused)) }
+    ensures line { IfOk result (λ line. line.items ≡ mds_object release access question.now verdict.now refused) }
+    ensures reads { OnOk result (ReadsBack (mds_value release access question.now verdict.now refused)) }
 {
     let mut members = Map::new(alloc);
     put_question(&mut members, alloc, question)?;
-    put_mds(&mut members, alloc, release, verdict, refused)?;
+    put_mds(&mut members, alloc, release, access, verdict, refused)?;
     let mut line = Vec::new(alloc);
     print_object(&mut line, members)?;
     Ok(line)
 }
 
-// Adds which MDS it is, and what is said.
+// Adds what is asked for, which MDS it is, and what is said.
 fn put_mds(
     members: &mut Members,
     alloc: Global,
     release: Release,
+    access: MdsAccess,
     verdict: &Verdict,
     refused: Option<usize>,
 ) -> Result<(), AllocError>
-    ensures { OnOk result (members_view members.new.entries ≡ with_all (mds_table release verdict.now refused) (members_view members.old.entries)) }
+    ensures { OnOk result (members_view members.new.entries ≡ with_all (mds_table release access verdict.now refused) (members_view members.old.entries)) }
 {
     let table = [
+        ("access", Piece::Access(access)),
         ("mds", Piece::Word(release.version())),
         ("verdict", Piece::Word(mds_word(verdict))),
         ("grant", grant_piece(verdict)),

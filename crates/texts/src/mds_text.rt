@@ -3,9 +3,9 @@ ghost use Rattle.std.specs.Prelude.{◌≡◌, ◌++◌, IfOk, OnOk, map};
 ghost use Rattle.texts.specs.Mds.{mds_failure, mds_failures, mds_line, mds_outcome, mds_reason, mds_text, others_lines, reason_text};
 ghost use Rattle.texts.specs.Mds.{refused_line, said, said_line, said_lines, said_word};
 
+use crate::mds_asked::MdsAccess;
 use crate::quoting::print_quoted_path;
 use capbits::{print, print_numbered, print_str};
-use capgrant::Access;
 use release_rules::{Others, Otherwise, Reason, Rule, Verdict};
 use std::alloc::{AllocError, Global};
 
@@ -14,7 +14,7 @@ use std::alloc::{AllocError, Global};
 /// Each ends in a line feed. Only memory can be missing.
 pub fn mds_lines(
     alloc: Global,
-    access: Access,
+    access: MdsAccess,
     path: &[&[u8]],
     verdict: &Verdict,
     refused: Option<usize>,
@@ -31,7 +31,7 @@ pub fn mds_lines(
 // Appends what the MDS answers, without a line feed.
 fn print_mds_line(
     text: &mut Vec<u8>,
-    access: Access,
+    access: MdsAccess,
     path: &[&[u8]],
     verdict: &Verdict,
 ) -> Result<(), AllocError>

@@ -5,6 +5,7 @@ ghost use Rattle.texts.specs.PartTexts.{mode_text};
 ghost use Rattle.texts.specs.Answers.{attr_table, caller_table, place_table, with_question};
 ghost use Rattle.texts.specs.Values.{with_all};
 
+use crate::mds_asked::MdsAccess;
 use crate::table::{Members, Piece, put_all};
 use capbits::{Caller, Mode};
 use capgrant::{Access, Attr, Question};
@@ -36,7 +37,7 @@ pub(crate) fn put_place<'x>(
         ≡ with_all (place_table access (map (λ name. name.now) path.now) fs.now) (members_view members.old.entries)) }
 {
     let table = [
-        ("access", Piece::Access(access)),
+        ("access", Piece::Access(MdsAccess::One(access))),
         ("path", Piece::Path(path)),
         ("fs", Piece::Bytes(fs.as_bytes())),
     ];

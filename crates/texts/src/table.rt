@@ -11,8 +11,9 @@ ghost use Rattle.texts.specs.Pieces.{piece_value, pieces_value};
 ghost use Rattle.texts.specs.Values.{IsPlain, ReadsBack, bytes_value, json_line, numbers_value, object_of, with_all};
 
 use crate::explain_text::print_path;
+use crate::mds_asked::MdsAccess;
 use capbits::{CapSet, print_caps};
-use capgrant::{Access, Rule};
+use capgrant::Rule;
 use serde_json::{Map, Value, put};
 use std::alloc::{AllocError, Global};
 
@@ -32,8 +33,8 @@ pub enum Piece<'a> {
     Bytes(&'a [u8]),
     /// Numbers, in their order.
     Numbers(&'a [u32]),
-    /// An access, by its word.
-    Access(Access),
+    /// An access, or what an MDS is asked for, by its word.
+    Access(MdsAccess),
     /// Names from the root down, as a path.
     Path(&'a [&'a [u8]]),
     /// Caps, in their one spelling.

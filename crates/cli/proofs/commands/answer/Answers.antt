@@ -1,4 +1,4 @@
-use Rattle.std.proofs.Common.{ℕ, List, rules, sym, subst, ◌∙◌}
+use Rattle.std.proofs.Common.{ℕ, List, refl, rules, sym, subst, ◌∙◌}
 use Rattle.std.specs.Prelude.{IfErr}
 use Rattle.std.proofs.lemmas.Result.{IfErr-at_err}
 use Rattle.texts.specs.Watched.{has_failed, inner_of}
@@ -7,6 +7,7 @@ use Rattle.cli_queries.specs.AuditArgs.{StopsAuditArgs}
 use Rattle.cli_queries.specs.WhoArgs.{StopsWhoArgs}
 use Rattle.cli_queries.specs.Logging.{StopsLog}
 use Rattle.cli_queries.specs.declared.fault.AnswerFault.{AnswerFault}
+use Rattle.cli.proofs.Done.{at_ok}
 use Rattle.cli.proofs.commands.answer.Goals as goal
 use Rattle.cli.proofs.commands.answer.Goals.{in-Audit, in-Compare, in-Explain, in-Grants, in-Lint, in-Log, in-Who}
 
@@ -34,4 +35,15 @@ returns-in-Err-clause-err g c = elim c.match-invocation.branch [
       let stops = λ (fs : List ℕ) (fault : AnswerFault). StopsLog fs fault (g.R.Read.remaining (inner_of c.args.reader.now)) (has_failed w.log-answered.new.reader) (has_failed w.log-answered.new.writer) (g.W.Write.contents (inner_of c.args.writer.now)) (g.W.Write.contents (inner_of w.log-answered.new.writer)) in
       let reported = subst (λ (fs : List ℕ). IfErr w.log-answered.result (stops fs)) w.as_slice-in-Log.ensures.value w.log-answered.ensures.err in
       rw (w.in-Log.is, w.reader-is, w.writer-is) (IfErr-at_err (stops w.in-Log.fs.items) (sym w.answered-is ∙ c.in-Err.is) reported)
+]
+
+pub returns-in-Ok-clause-names : goal.returns-in-Ok-clause-names
+returns-in-Ok-clause-names g c = elim c.match-invocation.branch [
+  | in-Explain w ↦ rw (w.in-Explain.is, w.invocation-is) (refl, refl)
+  | in-Grants w ↦ rw (w.in-Grants.is, w.invocation-is) (refl, refl)
+  | in-Compare w ↦ rw (w.in-Compare.is, w.invocation-is) (refl, refl)
+  | in-Lint w ↦ rw (w.in-Lint.is, w.invocation-is) (refl, refl)
+  | in-Who w ↦ rw (w.in-Who.is, w.invocation-is) (at_ok (sym w.answered-is ∙ c.in-Ok.is) w.who-answered.ensures.named, w.who-answered.ensures.kept)
+  | in-Audit w ↦ rw (w.in-Audit.is, w.invocation-is) (at_ok (sym w.answered-is ∙ c.in-Ok.is) w.audit-answered.ensures.named, w.audit-answered.ensures.kept)
+  | in-Log w ↦ rw (w.in-Log.is, w.invocation-is) (refl, refl)
 ]

@@ -1,4 +1,6 @@
-use Rattle.std.proofs.Common.{rules}
+use Rattle.std.proofs.Common.{◌++◌, rules, subst, ◌∙◌}
+use Rattle.policy_analysis.specs.Callers.{Wanted}
+use Rattle.policy_analysis.specs.Standing.{Answers}
 use Rattle.queries.specs.Attempts.{wanted_by}
 use Rattle.queries.specs.Clients.{others_in, standing_in}
 use Rattle.queries.proofs.ClientLines.{judged_line}
@@ -13,6 +15,8 @@ returns-in_ok-print_answer-in-Ok-Some c =
     let text = c.in-Some.text.now in
     let standing = c.standing-standing.result in (
       standing_in telling name w attr standing (others_in telling w attr text standing),
-      _,
-      judged_line telling w attr name c.args.client.now.caps text _ standing c.in-Some.ensures (rw (c.in-Ok-Some.field-0-is, c.meant.ensures) at c.in-Ok-Some.ensures.found) c.standing-standing.ensures,
+      c.in_ok-print_answer-in-Ok-Some.ensures
+          ∙ (λ i. c.args.lines.now.items ++ standing_in telling (c.name-name.ensures i) (c.wanted-wanted.ensures i) attr standing (c.in_ok-others.ensures i)),
+      judged_line telling w attr name c.args.client.now.caps text _ standing c.in-Some.ensures (rw (c.in-Ok-Some.field-0-is, c.meant.ensures) at c.in-Ok-Some.ensures.found)
+          (subst (λ (v : Wanted). Answers v attr _ standing) c.wanted-wanted.ensures c.standing-standing.ensures),
     )

@@ -10,14 +10,14 @@ use Rattle.texts.proofs.mds_answer.mds_object.Goals as goal
 pub print_object-requires : goal.print_object-requires
 print_object-requires c =
     let q = c.args.question.now in
-    let table = mds_table c.args.release c.args.verdict.now c.args.refused in
+    let table = mds_table c.args.release c.args.access c.args.verdict.now c.args.refused in
     let asked : members_view c.put_question.new.members.entries ≡ with_question q no_members = c.in_ok-put_question.ensures ∙ ap (with_question q) (ap members_view c.new-members.ensures.empty) in
-    plain-as (members_view c.put_mds.new.members.entries) (mds_value c.args.release q c.args.verdict.now c.args.refused) (ap object (c.in_ok-put_mds.ensures ∙ ap (with_all table) asked)) (plain-mds c.args.release q c.args.verdict.now c.args.refused)
+    plain-as (members_view c.put_mds.new.members.entries) (mds_value c.args.release c.args.access q c.args.verdict.now c.args.refused) (ap object (c.in_ok-put_mds.ensures ∙ ap (with_all table) asked)) (plain-mds c.args.release c.args.access q c.args.verdict.now c.args.refused)
 
 pub returns-clause-line : goal.returns-clause-line
 returns-clause-line c =
     let q = c.args.question.now in
-    let table = mds_table c.args.release c.args.verdict.now c.args.refused in
+    let table = mds_table c.args.release c.args.access c.args.verdict.now c.args.refused in
     let asked : members_view c.put_question.new.members.entries ≡ with_question q no_members = c.in_ok-put_question.ensures ∙ ap (with_question q) (ap members_view c.new-members.ensures.empty) in
     c.in_ok-print_object.ensures.line ∙ ap (λ text. text ++ json_line (object (members_view c.put_mds.new.members.entries))) c.new-line.ensures.items
     ∙ ap (λ (ms : Members). json_line (object ms)) (c.in_ok-put_mds.ensures ∙ ap (with_all table) asked)
@@ -25,6 +25,6 @@ returns-clause-line c =
 pub returns-clause-reads : goal.returns-clause-reads
 returns-clause-reads c =
     let q = c.args.question.now in
-    let table = mds_table c.args.release c.args.verdict.now c.args.refused in
+    let table = mds_table c.args.release c.args.access c.args.verdict.now c.args.refused in
     let asked : members_view c.put_question.new.members.entries ≡ with_question q no_members = c.in_ok-put_question.ensures ∙ ap (with_question q) (ap members_view c.new-members.ensures.empty) in
     subst (λ (ms : Members). ReadsBack (object ms)) (c.in_ok-put_mds.ensures ∙ ap (with_all table) asked) c.in_ok-print_object.ensures.reads
