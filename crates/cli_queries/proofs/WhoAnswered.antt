@@ -49,7 +49,7 @@ module _ (who_args : WhoArgs) (input left : Option (List ℕ)) (auth : List ℕ)
     names_refused known unread unwritten found (Err fault) (inl several) reported =
         let none = none_given who_args.values.fs names attempt.fs asks.fs several.1 in
         inr (inr (inr (inr (reported ∙ several.0, none.0, all_of (λ all. (some : List (List ℕ)) × AreNamedIn all some × (fs_among some None ≡ None)) input left auth taken end (names, (list, means, named), none.1)))), unchanged known)
-    names_refused known unread unwritten found (Err fault) (inr missed) reported = no_memory_left known unread unwritten (Err fault) (reported ∙ missed)
+    names_refused {T} known unread unwritten found (Err fault) (inr missed) reported = no_memory_left {T = T} known unread unwritten (Err fault) (reported ∙ missed)
 
     -- what is told of it was written
     pub told : (old new : Option (List ℕ)) (fs : List ℕ) (answer : WhoAnswer) (status : ℕ) (Fine : Type 0) (result : Result ℕ AnswerFault) → length auth ≤ longest_script → fs_among names attempt.fs ≡ Some fs

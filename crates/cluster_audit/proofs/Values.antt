@@ -26,7 +26,8 @@ use Rattle.texts.specs.Standing.{fault_word, unread_line}
 use Rattle.texts.proofs.Clients.{one_fault}
 use Rattle.texts.proofs.Quoted.{clash}
 use Rattle.texts.specs.Values.{bytes_value, or_null}
-use Rattle.texts.proofs.Distinct.{number_in, one_access, one_row, some_in, text_in, value_at}
+use Rattle.texts.proofs.Answered.{one_access}
+use Rattle.texts.proofs.Distinct.{number_in, one_row, some_in, text_in, value_at}
 use Rattle.texts.proofs.Spelling.{one_spelling}
 use Rattle.cluster_audit.specs.declared.notes.Detail.TheVariants.{Groups}
 use Rattle.cluster_audit.specs.declared.summary.Counts.{Counts}

@@ -23,7 +23,7 @@ use Rattle.texts.specs.Quoting.{quoted}
 use Rattle.texts.specs.MdsTold.{AreCounted}
 use Rattle.texts.specs.Standing.{fault_word, standing_line, standing_others, standing_reason, standing_word, unread_line}
 use Rattle.texts.proofs.Answered.{number_to, one_list_to, parted}
-use Rattle.texts.proofs.Beside.{AreSmall, bare_text, line_text, lines_of, lines_small, one_line, others_are, same_lines}
+use Rattle.texts.proofs.Beside.{AreSmall, bare_text, in_list, line_text, lines_of, lines_small, one_line, same_lines}
 use Rattle.texts.proofs.Beside.{Line as OfReleases}
 use Rattle.texts.proofs.Clients.{has_word, kind_of}
 use Rattle.texts.proofs.Quoted.{bare, before_word, clash, first_byte}
@@ -216,7 +216,7 @@ of_lines name (l ∷ lines) = ap (λ (r : List ℕ). line_text (quoted name ++ c
 
 of_one : (x : Reported) → reported_lines x ≡ flat_map single_line (singles x)
 of_one (judged name w standing others) =
-    ap (λ (r : List ℕ). standing_line name w.access w.path standing ++ r) (others_are (quoted name ++ codes ": ") others ∙ of_lines name (lines_of others))
+    ap (λ (r : List ℕ). standing_line name w.access w.path standing ++ r) (in_list (quoted name ++ codes ": ") others ∙ of_lines name (lines_of others))
 of_one (unread name fault) = sym (append-nil (unread_line name fault))
 
 of_all : (xs : List Reported) → flat_map reported_lines xs ≡ flat_map single_line (flat_map singles xs)

@@ -14,26 +14,26 @@ returns-in_err-given-clause-err g c =
 pub returns-in_err-fs-clause-err : goal.returns-in_err-fs-clause-err
 returns-in_err-fs-clause-err g c =
     let are = are_of c.args.audit_args.now c.as_slice.result.now c.as_slice-2.result.now c.in_ok-clients.clients c.as_slice.ensures.value c.as_slice-2.ensures.value c.in_ok-clients.ensures.ok in
-    several_named c.args.audit_args.now c.in_ok-clients.clients c.in_ok-fs_names.field-0.items c.in_ok-given.given are c.in_ok-fs_names.ensures c.in_ok-given.ensures
+    several_named c.args.audit_args.now c.in_ok-clients.clients c.in_ok-audit_args.field-0.items c.in_ok-given.given are c.in_ok-audit_args.ensures c.in_ok-given.ensures
     (g.R.Read.remaining (inner_of c.args.reader.now)) (g.W.Write.contents (inner_of c.args.writer.now)) (has_failed c.args.reader.now) (has_failed c.args.writer.now) c.in_err-fs.field-0.0 c.from_residual-in_err-fs.result
     (subst (λ (ns : List (List ℕ)). IsFaultOfNames ns c.in_ok-given.given c.in_err-fs.field-0.0) c.as_slice-3.ensures.value c.in_err-fs.ensures.err) c.from_residual-in_err-fs.ensures.1
 
 pub returns-in_err-tree-clause-err : goal.returns-in_err-tree-clause-err
 returns-in_err-tree-clause-err g c =
     let are = are_of c.args.audit_args.now c.as_slice.result.now c.as_slice-2.result.now c.in_ok-clients.clients c.as_slice.ensures.value c.as_slice-2.ensures.value c.in_ok-clients.ensures.ok in
-    tree_refused c.args.audit_args.now c.in_ok-clients.clients c.in_ok-fs_names.field-0.items c.in_ok-given.given are c.in_ok-fs_names.ensures c.in_ok-given.ensures
+    tree_refused c.args.audit_args.now c.in_ok-clients.clients c.in_ok-audit_args.field-0.items c.in_ok-given.given are c.in_ok-audit_args.ensures c.in_ok-given.ensures
     (g.R.Read.remaining (inner_of c.args.reader.now)) (g.W.Write.contents (inner_of c.args.writer.now)) (has_failed c.read_tree.new.reader) (has_failed c.args.writer.now) c.in_err-tree.field-0.0 c.from_residual-in_err-tree.result
     c.in_err-tree.ensures.err c.from_residual-in_err-tree.ensures.1
 
 pub returns-clause-named : goal.returns-clause-named
 returns-clause-named g c =
     let are = are_of c.args.audit_args.now c.as_slice.result.now c.as_slice-2.result.now c.in_ok-clients.clients c.as_slice.ensures.value c.as_slice-2.ensures.value c.in_ok-clients.ensures.ok in
-    are_named c.args.audit_args.now c.in_ok-clients.clients c.in_ok-fs_names.field-0.items c.in_ok-given.given are c.in_ok-fs_names.ensures c.in_ok-given.ensures c.write_text.result
+    are_named c.args.audit_args.now c.in_ok-clients.clients c.in_ok-audit_args.field-0.items c.in_ok-given.given are c.in_ok-audit_args.ensures c.in_ok-given.ensures c.write_text.result
 
 pub returns-clause-reported : goal.returns-clause-reported
 returns-clause-reported g c =
     let are = are_of c.args.audit_args.now c.as_slice.result.now c.as_slice-2.result.now c.in_ok-clients.clients c.as_slice.ensures.value c.as_slice-2.ensures.value c.in_ok-clients.ensures.ok in
-    audit_reported c.args.audit_args.now c.in_ok-clients.clients c.in_ok-fs_names.field-0.items c.in_ok-given.given are c.in_ok-fs_names.ensures c.in_ok-given.ensures
+    audit_reported c.args.audit_args.now c.in_ok-clients.clients c.in_ok-audit_args.field-0.items c.in_ok-given.given are c.in_ok-audit_args.ensures c.in_ok-given.ensures
     c.in_ok-fs.fs c.in_ok-report.report.text.items c.as_slice-text.result.now (dump c.in_ok-tree.tree.inodes.items c.in_ok-tree.tree.paths) c.in_ok-report.report.found c.found_status-status.result
     (g.R.Read.remaining (inner_of c.args.reader.now)) (g.W.Write.contents (inner_of c.args.writer.now)) (g.W.Write.contents (inner_of c.write_text.new.writer)) (has_failed c.write_text.new.writer) c.write_text.result
     (subst (λ (ns : List (List ℕ)). fs_among ns c.in_ok-given.given ≡ Some c.in_ok-fs.fs) c.as_slice-3.ensures.value c.in_ok-fs.ensures.ok) c.in_ok-tree.ensures.ok c.in_ok-report.ensures
