@@ -43,6 +43,10 @@ abbrev pub why_squashed : Access → Reason
 why_squashed SetVxattr = AttributeByFlag
 why_squashed access = ZeroUid
 
+-- that the uid names nobody there, or else this reason
+abbrev pub zero_uid_or : Bool → Reason → Reason
+zero_uid_or nobody reason = if nobody then ZeroUid else reason
+
 -- why a grant allows there that fails here by this rule, by whether its uid names nobody there
 abbrev pub why_allowed : Access → Bool → Option OwnRule → Reason
 why_allowed access nobody (Some own.FsName) = OtherFileSystem
@@ -51,8 +55,8 @@ why_allowed access nobody (Some own.Gids) = ZeroUid
 why_allowed access nobody (Some own.NotOwnGroup) = ZeroUid
 why_allowed access nobody (Some own.NoWrite) = AttributeByFlag
 why_allowed access nobody (Some own.RootSquash) = why_squashed access
-why_allowed access nobody (Some own.NotOwner) = if nobody then ZeroUid else ModeByBits
-why_allowed access nobody (Some own.ModeBits) = if nobody then ZeroUid else why_by_mode access
+why_allowed access nobody (Some own.NotOwner) = zero_uid_or nobody ModeByBits
+why_allowed access nobody (Some own.ModeBits) = zero_uid_or nobody (why_by_mode access)
 why_allowed access nobody rule = OtherText
 
 -- why a grant that allows here fails there, by the rule

@@ -38,6 +38,12 @@ const NOTHING: Asked = Asked {
     full: false,
 };
 
+// A check that asks to write.
+const WRITE: Asked = Asked {
+    write: true,
+    ..NOTHING
+};
+
 impl Asked {
     ghost use Rattle.std.specs.Prelude.{◌≡◌};
     ghost use Rattle.release_rules.specs.Asked.{asked_by, asked_for};
@@ -46,23 +52,28 @@ impl Asked {
     pub fn of_access(access: Access) -> Asked
         ensures { result ≡ asked_for access }
     {
-        let write = !matches!(access, Access::Read | Access::SetVxattr);
-        let new_owner = match access {
-            Access::Chown(uid) => Some(uid),
-            _ => None,
-        };
-        let new_group = match access {
-            Access::Chgrp(gid) => Some(gid),
-            _ => None,
-        };
-        Asked {
-            read: matches!(access, Access::Read),
-            write,
-            new_owner,
-            new_group,
-            set_vxattr: matches!(access, Access::SetVxattr),
-            snapshot: matches!(access, Access::Snapshot),
-            ..NOTHING
+        match access {
+            Access::Read => Asked {
+                read: true,
+                ..NOTHING
+            },
+            Access::Write | Access::Chmod => WRITE,
+            Access::SetVxattr => Asked {
+                set_vxattr: true,
+                ..NOTHING
+            },
+            Access::Snapshot => Asked {
+                snapshot: true,
+                ..WRITE
+            },
+            Access::Chown(uid) => Asked {
+                new_owner: Some(uid),
+                ..WRITE
+            },
+            Access::Chgrp(gid) => Asked {
+                new_group: Some(gid),
+                ..WRITE
+            },
         }
     }
 

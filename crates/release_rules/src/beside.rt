@@ -1,7 +1,7 @@
 //! Where the MDS of a release answers otherwise than this server, and why.
 ghost use Rattle.std.specs.Prelude.{◌≡◌, slice_get, IfOk};
 ghost use Rattle.release_rules.specs.Beside.{allowed_there, beside, denied_there, names_nobody, other_of, others_of, why_allowed, why_by_mode};
-ghost use Rattle.release_rules.specs.Beside.{why_denied, why_squashed};
+ghost use Rattle.release_rules.specs.Beside.{why_denied, why_squashed, zero_uid_or};
 
 use crate::grant::Grant;
 use crate::judging::mds_verdict;
@@ -174,9 +174,8 @@ fn why_allowed(access: Access, nobody: bool, rule: Option<capgrant::Rule>) -> Re
         capgrant::Rule::Uid | capgrant::Rule::Gids | capgrant::Rule::NotOwnGroup => Reason::ZeroUid,
         capgrant::Rule::NoWrite => Reason::AttributeByFlag,
         capgrant::Rule::RootSquash => why_squashed(access),
-        capgrant::Rule::NotOwner if !nobody => Reason::ModeByBits,
-        capgrant::Rule::ModeBits if !nobody => why_by_mode(access),
-        capgrant::Rule::NotOwner | capgrant::Rule::ModeBits => Reason::ZeroUid,
+        capgrant::Rule::NotOwner => zero_uid_or(nobody, Reason::ModeByBits),
+        capgrant::Rule::ModeBits => zero_uid_or(nobody, why_by_mode(access)),
         capgrant::Rule::Path | capgrant::Rule::NoP | capgrant::Rule::NoS => Reason::OtherText,
     }
 }
@@ -189,6 +188,13 @@ fn why_squashed(access: Access) -> Reason
         Access::SetVxattr => Reason::AttributeByFlag,
         _ => Reason::ZeroUid,
     }
+}
+
+// That the uid names nobody there, or else this reason.
+fn zero_uid_or(nobody: bool, reason: Reason) -> Reason
+    ensures { result ≡ zero_uid_or nobody reason }
+{
+    if nobody { Reason::ZeroUid } else { reason }
 }
 
 // Why a grant that allows here fails there by this rule.
