@@ -3,7 +3,7 @@
 ghost use Rattle.std.specs.Prelude.{◌≡◌, [], Some, IfOk, IfErr, Ok, option_map};
 ghost use Rattle.serde_json.specs.View.{items_view, view};
 ghost use Rattle.ceph_input.specs.Values.{IsFaultIn};
-ghost use Rattle.ceph_input.specs.Sessions.{entity_in, session_of, sessions_from, sessions_of};
+ghost use Rattle.ceph_input.specs.Sessions.{entity_in, features_in, has_bit_21, session_of, sessions_from, sessions_of, unchecked_in};
 
 use crate::cluster_fault::ClusterFault;
 use crate::key::{Key, read_key};
@@ -17,6 +17,7 @@ pub struct Session {
     number: u64,
     key: Option<Key>,
     entity: Option<Vec<u8>>,
+    unchecked: bool,
 }
 
 // Not derived: so the proof of a function that drops one has a single call there.
@@ -26,6 +27,7 @@ impl Drop for Session {
             number: _,
             key: _,
             entity: _,
+            unchecked: _,
         } = self;
     }
 }
@@ -36,21 +38,22 @@ impl Model for Session {
 
     ghost Value = { Connected };
 
-    ghost view = { λ s. connected s.number s.key (option_map (λ id. id.items) s.entity) };
+    ghost view = { λ s. connected s.number s.key (option_map (λ id. id.items) s.entity) s.unchecked };
 }
 
 impl Session {
     ghost use Rattle.std.specs.Prelude.{◌≡◌, IfOk, option_map};
     ghost use Rattle.ceph_input.specs.Sessions.{connected};
 
-    // The session with this number, of a client that was let in by this key and calls itself this.
+    // The session with this number, of a client that was let in by this key, calls itself this, and may be known not to check itself.
     fn new(
         alloc: Global,
         number: u64,
         key: Option<Key>,
         entity: Option<&str>,
+        unchecked: bool,
     ) -> Result<Session, AllocError>
-        ensures { IfOk result (λ s. s ≡ connected number key (option_map (λ id. id.now) entity.entry)) }
+        ensures { IfOk result (λ s. s ≡ connected number key (option_map (λ id. id.now) entity.entry) unchecked) }
     {
         let entity = match entity {
             None => None,
@@ -60,6 +63,7 @@ impl Session {
             number,
             key,
             entity,
+            unchecked,
         })
     }
 
@@ -86,10 +90,18 @@ impl Session {
             Some(id) => Some(id.as_slice()),
         }
     }
+
+    /// Whether its client tells its features, and not that of bit 21, `CEPHFS_FEATURE_MDS_AUTH_CAPS_CHECK`: that it checks by its grants what it changes.
+    pub fn is_unchecked(&self) -> bool
+        ensures { result ≡ self.now.unchecked }
+    {
+        self.unchecked
+    }
 }
 
 /// The sessions that a text lists, in its order. Each has a number at `id`; its client was let in by the key of the kind at
-/// `auth_name.type_str` and the name at `auth_name.id`, and calls itself what stands at `client_metadata.entity_id`. The fault is the first thing that is wrong, or want of memory.
+/// `auth_name.type_str` and the name at `auth_name.id`, calls itself what stands at `client_metadata.entity_id`, and has the
+/// features at `client_metadata.client_features.feature_bits`, in hexadecimal digits. The fault is the first thing that is wrong, or want of memory.
 pub fn read_sessions(alloc: Global, text: &[u8]) -> Result<Vec<Session>, ClusterFault>
     ensures ok { IfOk result (λ sessions. sessions_of text.now ≡ Some (Ok sessions.items)) }
     ensures err { IfErr result (λ fault. IsFaultIn fault (sessions_of text.now)) }
@@ -131,7 +143,9 @@ fn read_session(alloc: Global, item: &Value) -> Result<Option<Session>, AllocErr
         return Ok(None);
     };
     let key = read_key(alloc, item)?;
-    Ok(Some(Session::new(alloc, number, key, entity_in(item))?))
+    let unchecked = unchecked_in(item);
+    let session = Session::new(alloc, number, key, entity_in(item), unchecked)?;
+    Ok(Some(session))
 }
 
 // What the client of a session calls itself.
@@ -139,4 +153,32 @@ fn entity_in(item: &Value) -> Option<&str>
     ensures { option_map (λ name. name.now) result ≡ entity_in (view item.now) }
 {
     text_at(item.get("client_metadata")?, "entity_id")
+}
+
+// Whether the client of a session tells what it can, and not that it checks itself.
+fn unchecked_in(item: &Value) -> bool
+    ensures { result ≡ unchecked_in (view item.now) }
+{
+    match features_in(item) {
+        None => false,
+        Some(features) => !has_bit_21(features.as_bytes()),
+    }
+}
+
+// The features that it tells.
+fn features_in(item: &Value) -> Option<&str>
+    ensures { option_map (λ features. features.now) result ≡ features_in (view item.now) }
+{
+    let features = item.get("client_metadata")?.get("client_features")?;
+    text_at(features, "feature_bits")
+}
+
+// Whether a number in hexadecimal digits has bit 21. The sixth digit from the end has the bits 20 to 23.
+fn has_bit_21(digits: &[u8]) -> bool
+    ensures { result ≡ has_bit_21 digits.now }
+{
+    if digits.len() < 6 {
+        return false;
+    }
+    b"2367abef".contains(&digits[digits.len() - 6])
 }

@@ -6,7 +6,7 @@ use Rattle.capgrant.specs.declared.access.Attr.{Attr}
 use Rattle.ceph_input.specs.Auth.{Named}
 use Rattle.ceph_input.specs.Dump.{Held, Listed, PathMap}
 use Rattle.cluster_audit.specs.Callers.{Inode, inode}
-use Rattle.cluster_audit.specs.Audited.{AreReports, Clients, IsJudged, SaysOf, SaysOfInode, name_of, path_of, pathless_of}
+use Rattle.cluster_audit.specs.Audited.{AreReports, Clients, IsJudged, IsJudgedBy, SaysOf, SaysOfInode, is_unchecked, name_of, path_of, pathless_of}
 use Rattle.cluster_audit.specs.Shaped.{unlisted_in, unnamed_in}
 
 pub unnamed : (known : Clients) (number : ℕ) (i : Inode) (h : Held) → name_of known.sessions h.client ≡ None → SaysOf known number i h [] (unnamed_in known.manner.shape h.client)
@@ -16,8 +16,11 @@ module _ (known : Clients) (number : ℕ) (i : Inode) (h : Held) (client : List 
   pub unlisted : find (λ e. bytes_eq e.name client) known.entities ≡ None → SaysOf known number i h [] (unlisted_in known.manner.shape client)
   unlisted none = rw (is, none) (refl, refl)
 
-  pub without_caps : (e : Named) → find (λ e. bytes_eq e.name client) known.entities ≡ Some e → e.caps ≡ None → (found unknown : List ℕ) → IsJudged known.manner number i client [] h found unknown → SaysOf known number i h found unknown
+  pub without_caps : (e : Named) → find (λ e. bytes_eq e.name client) known.entities ≡ Some e → e.caps ≡ None → (found unknown : List ℕ) → IsJudged known.manner number i client (is_unchecked known.sessions h.client) [] h found unknown → SaysOf known number i h found unknown
   without_caps e listed none found unknown judged = rw (is, listed, none) judged
+
+  pub with_caps : (e : Named) → find (λ e. bytes_eq e.name client) known.entities ≡ Some e → (text : List ℕ) → e.caps ≡ Some text → (found unknown : List ℕ) → IsJudgedBy known.manner number i client (is_unchecked known.sessions h.client) h text found unknown → SaysOf known number i h found unknown
+  with_caps e listed text some found unknown judged = rw (is, listed, some) judged
 
 module _ (fs : List ℕ) (known : Clients) (paths : PathMap) (it : Listed) where
   pub without_path : path_of paths it ≡ None → SaysOfInode fs known paths it [] (flat_map (pathless_of known.manner.shape known.sessions it.number) it.holders)

@@ -1,5 +1,5 @@
 -- Two lines of an audit that are equal tell the same, and so do two texts, line by line.
-use Rattle.std.proofs.Common.{◌≡◌, ℕ, ◌<◌, ◌^◌, false, Option, Some, None, List, [], ◌∷◌, ◌++◌, refl, sym, ap, ◌∙◌, append_assoc, arith}
+use Rattle.std.proofs.Common.{◌≡◌, ℕ, ◌<◌, ◌^◌, Bool, true, false, Option, Some, None, List, [], ◌∷◌, ◌++◌, refl, sym, ap, ◌∙◌, append_assoc, arith}
 use Rattle.std.specs.Prelude.{All, codes}
 use Rattle.std.specs.Fmt.{decimal}
 use Rattle.std.specs.List.{flat_map}
@@ -19,7 +19,7 @@ use Rattle.texts.proofs.Clients.{one_fault}
 use Rattle.texts.proofs.Quoted.{bare, before_a_line_feed, before_a_space, before_word, clash, first_byte}
 use Rattle.cluster_audit.specs.declared.notes.Detail.TheVariants.{Each, Groups}
 use Rattle.cluster_audit.specs.declared.summary.Counts.{Counts}
-use Rattle.cluster_audit.specs.Lines.{holder_text, on_inode, place_text, revoked_text, who_text, why_text}
+use Rattle.cluster_audit.specs.Lines.{holder_text, on_inode, place_text, revoked_text, unjudged_text, who_text, why_text}
 use Rattle.cluster_audit.specs.Reported.{AllTellTheSame, AreCounts, HasNumbers, IsOneClient, IsOneInode, Line, TellTheSame, line_text}
 use Rattle.cluster_audit.specs.Reported as reported
 use Rattle.cluster_audit.proofs.Words.{before_why, is_digit, no_number, number, one_caps, one_revoked, one_why}
@@ -47,14 +47,14 @@ from_sessions n s = codes ", sessions " ++ (decimal n.sessions ++ from_beyond n 
 abbrev from_entries : Counts → List ℕ → List ℕ
 from_entries n s = codes ", entries " ++ (decimal n.entries ++ from_sessions n s)
 
-abbrev from_why : Finding → List ℕ → List ℕ
-from_why f s = why_text f.missing f.rules ++ 10 ∷ s
+abbrev from_why : Finding → Bool → List ℕ → List ℕ
+from_why f u s = why_text f.missing f.rules ++ (unjudged_text u ++ 10 ∷ s)
 
-abbrev from_beyond_caps : Caps → Finding → List ℕ → List ℕ
-from_beyond_caps x f s = revoked_text (minus f.caps x) ++ (codes ": " ++ from_why f s)
+abbrev from_beyond_caps : Caps → Finding → Bool → List ℕ → List ℕ
+from_beyond_caps x f u s = revoked_text (minus f.caps x) ++ (codes ": " ++ from_why f u s)
 
 abbrev laid : Line → List ℕ → List ℕ
-laid (reported.held k p c n i x f) s = place_text p c n ++ (codes " holds " ++ (text_of i ++ (codes ", may not " ++ (text_of f.caps ++ from_beyond_caps x f s))))
+laid (reported.held k p c n i x f u) s = place_text p c n ++ (codes " holds " ++ (text_of i ++ (codes ", may not " ++ (text_of f.caps ++ from_beyond_caps x f u s))))
 laid (reported.group c f n) s = why_text f.missing f.rules ++ 32 ∷ (quoted c ++ (codes ": " ++ (decimal n ++ 10 ∷ s)))
 laid (reported.conflict m p a b c) s = on_inode Each m p ++ (holder_text Each c.one.client a ++ 32 ∷ holds c (holder_text Each c.other.client b ++ 10 ∷ s))
 laid (reported.conflict_group a b c n) s = holder_text Groups c.one.client a ++ 32 ∷ holds c (holder_text Groups c.other.client b ++ (codes ": " ++ (decimal n ++ 10 ∷ s)))
@@ -68,8 +68,8 @@ laid (reported.pathless k c n i) s = codes "inode " ++ (decimal k ++ (codes ": n
 laid reported.nothing s = codes "nothing found\n" ++ s
 laid (reported.summary n) s = codes "inodes " ++ (decimal n.inodes ++ from_entries n s)
 
-held_apart : (p i m r w s : List ℕ) → (p ++ ((codes " holds " ++ (i ++ (codes ", may not " ++ (m ++ (r ++ (codes ": " ++ w)))))) ++ codes "\n")) ++ s ≡ p ++ (codes " holds " ++ (i ++ (codes ", may not " ++ (m ++ (r ++ (codes ": " ++ (w ++ 10 ∷ s)))))))
-held_apart p i m r w s = simp append_assoc
+held_apart : (p i m r w e s : List ℕ) → (p ++ ((codes " holds " ++ (i ++ (codes ", may not " ++ (m ++ (r ++ (codes ": " ++ w)))))) ++ (e ++ codes "\n"))) ++ s ≡ p ++ (codes " holds " ++ (i ++ (codes ", may not " ++ (m ++ (r ++ (codes ": " ++ (w ++ (e ++ 10 ∷ s))))))))
+held_apart p i m r w e s = simp append_assoc
 
 group_apart : (w c n s : List ℕ) → ((((w ++ (codes " " ++ c)) ++ codes ": ") ++ n) ++ codes "\n") ++ s ≡ w ++ 32 ∷ (c ++ (codes ": " ++ (n ++ 10 ∷ s)))
 group_apart w c n s = simp append_assoc
@@ -102,7 +102,7 @@ summary_apart : (a b c d e f s : List ℕ)
 summary_apart a b c d e f s = simp append_assoc
 
 laid_out : (l : Line) (s : List ℕ) → line_text l ++ s ≡ laid l s
-laid_out (reported.held k p c n i x f) s = held_apart (place_text p c n) (text_of i) (text_of f.caps) (revoked_text (minus f.caps x)) (why_text f.missing f.rules) s
+laid_out (reported.held k p c n i x f u) s = held_apart (place_text p c n) (text_of i) (text_of f.caps) (revoked_text (minus f.caps x)) (why_text f.missing f.rules) (unjudged_text u) s
 laid_out (reported.group c f n) s = group_apart (why_text f.missing f.rules) (quoted c) (decimal n) s
 laid_out (reported.conflict m p a b c) s = conflict_apart (on_inode Each m p) (holder_text Each c.one.client a) (text_of c.one.caps) (text_of c.other.caps) (holder_text Each c.other.client b) s
 laid_out (reported.conflict_group a b c n) s = conflict_groups_apart (holder_text Groups c.one.client a) (text_of c.one.caps) (text_of c.other.caps) (holder_text Groups c.other.client b) (decimal n) s
@@ -119,7 +119,7 @@ laid_out (reported.summary n) s = summary_apart (decimal n.inodes) (decimal n.en
 -- ---- kinds
 
 abbrev pub kind : Line → ℕ
-kind (reported.held k p c n i x f) = 1
+kind (reported.held k p c n i x f u) = 1
 kind (reported.group c f n) = 2
 kind (reported.conflict m p a b c) = 3
 kind (reported.conflict_group a b c n) = 4
@@ -138,7 +138,7 @@ some_kind reported.nothing = omega arith
 some_kind l = omega arith
 
 kind_is : (l : Line) (s : List ℕ) → HasNumbers l → kind_of (laid l s) ≡ kind l
-kind_is (reported.held k p c n i x f) s small = of_held p c n i (text_of f.caps ++ from_beyond_caps x f s) small
+kind_is (reported.held k p c n i x f u) s small = of_held p c n i (text_of f.caps ++ from_beyond_caps x f u s) small
 kind_is (reported.group c f n) s small = of_group f.missing f.rules (quoted c ++ (codes ": " ++ (decimal n ++ 10 ∷ s)))
 kind_is (reported.conflict m None a b c) s small =
     let rest : List ℕ = 32 ∷ holds c (holder_text Each c.other.client b ++ 10 ∷ s) in
@@ -243,17 +243,29 @@ one_beside c d s t same =
 
 -- ---- two lines of one kind
 
-one_held : (p q : List (List ℕ)) (c d : List ℕ) (m n : ℕ) (i j x y : Caps) (f g : Finding) (s t : List ℕ) → m < 2 ^ 64 → n < 2 ^ 64 → laid (reported.held 0 p c m i x f) s ≡ laid (reported.held 0 q d n j y g) t
-    → TellTheSame (reported.held 0 p c m i x f) (reported.held 0 q d n j y g) × (s ≡ t)
-one_held p q c d m n i j x y f g s t small also same =
-    let u : List ℕ = text_of f.caps ++ from_beyond_caps x f s in
-    let v : List ℕ = text_of g.caps ++ from_beyond_caps y g t in
+-- the end of a line
+end_begins : (a : Bool) (s : List ℕ) → first_byte (unjudged_text a ++ 10 ∷ s) < 44
+end_begins true s = omega arith
+end_begins false s = omega arith
+
+one_end : (a b : Bool) (s t : List ℕ) → unjudged_text a ++ 10 ∷ s ≡ unjudged_text b ++ 10 ∷ t → (a ≡ b) × (s ≡ t)
+one_end true true s t same = (refl, append_cancel_left (codes " (unjudged from Ceph 18 on)\n") s t same)
+one_end true false s t same = clash 10 32 (omega arith) (sym (ap first_byte same))
+one_end false true s t same = clash 10 32 (omega arith) (ap first_byte same)
+one_end false false s t same = (refl, append_cancel_left (codes "\n") s t same)
+
+one_held : (p q : List (List ℕ)) (c d : List ℕ) (m n : ℕ) (i j x y : Caps) (f g : Finding) (a b : Bool) (s t : List ℕ) → m < 2 ^ 64 → n < 2 ^ 64 → laid (reported.held 0 p c m i x f a) s ≡ laid (reported.held 0 q d n j y g b) t
+    → TellTheSame (reported.held 0 p c m i x f a) (reported.held 0 q d n j y g b) × (s ≡ t)
+one_held p q c d m n i j x y f g a b s t small also same =
+    let u : List ℕ = text_of f.caps ++ from_beyond_caps x f a s in
+    let v : List ℕ = text_of g.caps ++ from_beyond_caps y g b t in
     let place = one_place p q c d m n (codes " holds " ++ (text_of i ++ (codes ", may not " ++ u))) (codes " holds " ++ (text_of j ++ (codes ", may not " ++ v))) small also refl refl same in
     let issued = one_caps i j (codes ", may not " ++ u) (codes ", may not " ++ v) refl refl (append_cancel_left (codes " holds ") (text_of i ++ (codes ", may not " ++ u)) (text_of j ++ (codes ", may not " ++ v)) place.3) in
-    let beyond = one_caps f.caps g.caps (from_beyond_caps x f s) (from_beyond_caps y g t) (before_why (minus f.caps x) (32 ∷ from_why f s)) (before_why (minus g.caps y) (32 ∷ from_why g t)) (append_cancel_left (codes ", may not ") u v issued.1) in
-    let revoked = one_revoked (minus f.caps x) (minus g.caps y) (32 ∷ from_why f s) (32 ∷ from_why g t) beyond.1 in
-    let why = one_why f.missing g.missing f.rules g.rules (10 ∷ s) (10 ∷ t) (omega arith) (omega arith) (append_cancel_left (codes " ") (from_why f s) (from_why g t) revoked.1) in
-    ((place.0, place.1, place.2, issued.0, beyond.0, revoked.0, why.0), append_cancel_left (codes "\n") s t why.1)
+    let beyond = one_caps f.caps g.caps (from_beyond_caps x f a s) (from_beyond_caps y g b t) (before_why (minus f.caps x) (32 ∷ from_why f a s)) (before_why (minus g.caps y) (32 ∷ from_why g b t)) (append_cancel_left (codes ", may not ") u v issued.1) in
+    let revoked = one_revoked (minus f.caps x) (minus g.caps y) (32 ∷ from_why f a s) (32 ∷ from_why g b t) beyond.1 in
+    let why = one_why f.missing g.missing f.rules g.rules (unjudged_text a ++ 10 ∷ s) (unjudged_text b ++ 10 ∷ t) (end_begins a s) (end_begins b t) (append_cancel_left (codes " ") (from_why f a s) (from_why g b t) revoked.1) in
+    let end = one_end a b s t why.1 in
+    ((place.0, place.1, place.2, issued.0, beyond.0, revoked.0, why.0, end.0), end.1)
 
 one_group : (c d : List ℕ) (f g : Finding) (m n : ℕ) (s t : List ℕ) → m < 2 ^ 64 → n < 2 ^ 64 → laid (reported.group c f m) s ≡ laid (reported.group d g n) t → TellTheSame (reported.group c f m) (reported.group d g n) × (s ≡ t)
 one_group c d f g m n s t small also same =
@@ -369,7 +381,7 @@ one_summary m n s t small also same =
 -- ---- two lines
 
 of_kind : (a b : Line) (s t : List ℕ) → kind a ≡ kind b → HasNumbers a → HasNumbers b → laid a s ≡ laid b t → TellTheSame a b × (s ≡ t)
-of_kind (reported.held k p c m i x f) (reported.held l q d n j y g) s t e small also same = one_held p q c d m n i j x y f g s t small also same
+of_kind (reported.held k p c m i x f a) (reported.held l q d n j y g b) s t e small also same = one_held p q c d m n i j x y f g a b s t small also same
 of_kind (reported.group c f m) (reported.group d g n) s t e small also same = one_group c d f g m n s t small also same
 of_kind (reported.conflict m p a b c) (reported.conflict n q x y d) s t e small also same = one_conflict m n p q a b x y c d s t small also same
 of_kind (reported.conflict_group a b c m) (reported.conflict_group x y d n) s t e small also same = one_conflict_group a b x y c d m n s t small also same

@@ -1,5 +1,5 @@
 -- Objects of an audit that are equal tell the same.
-use Rattle.std.proofs.Common.{◌≡◌, ℕ, zero, suc, ◌<◌, ◌==◌, ◌&&◌, true, false, cond, nat_lt, inl, inr, Option, Some, None, List, [], ◌∷◌, ◌++◌, refl, sym, ap}
+use Rattle.std.proofs.Common.{◌≡◌, ℕ, zero, suc, ◌<◌, ◌==◌, ◌&&◌, Bool, true, false, cond, nat_lt, inl, inr, Option, Some, None, List, [], ◌∷◌, ◌++◌, refl, sym, ap}
 use Rattle.std.proofs.Common.{◌∙◌, arith}
 use Rattle.std.specs.Prelude.{IfSome, bytes_eq, codes, if◌then◌else◌}
 use Rattle.std.specs.Fmt.{decimal}
@@ -32,7 +32,7 @@ use Rattle.texts.proofs.Spelling.{one_spelling}
 use Rattle.cluster_audit.specs.declared.notes.Detail.TheVariants.{Groups}
 use Rattle.cluster_audit.specs.declared.summary.Counts.{Counts}
 use Rattle.cluster_audit.specs.Instead.{HasBytes, TellMore, value_of}
-use Rattle.cluster_audit.specs.Objects.{access_value, caps_or_null, caps_value, path_value, session_value, why_value}
+use Rattle.cluster_audit.specs.Objects.{access_value, caps_or_null, caps_value, path_value, session_value, unjudged_value, why_value}
 use Rattle.cluster_audit.specs.Reported.{IsOneClient, IsOneInode, Line, TellTheSame, reasons}
 use Rattle.cluster_audit.specs.Reported as reported
 use Rattle.cluster_audit.proofs.Tells.{kind}
@@ -122,6 +122,12 @@ one_kind k l word =
     let line : unread_line [] (at_start k) ≡ unread_line [] (at_start l) = λ i. quoted [] ++ (codes ": grants: " ++ (word i ++ (codes " at " ++ (decimal 0 ++ codes "\n")))) in
     ap (λ (f : SpecFault). f.kind) (one_fault [] [] (at_start k) (at_start l) (omega arith) (omega arith) line).1
 
+one_unjudged : (a b : Bool) → number_in (unjudged_value a) ≡ number_in (unjudged_value b) → a ≡ b
+one_unjudged true true same = refl
+one_unjudged true false same = clash 0 18 (omega arith) (sym same)
+one_unjudged false true same = clash 0 18 (omega arith) same
+one_unjudged false false same = refl
+
 -- ---- kinds
 
 abbrev by_word : List ℕ → List ℕ → ℕ
@@ -140,7 +146,7 @@ kind_in d = by_word (text_in (value_at (codes "kind") d)) (text_in (value_at (co
 
 kind_is : (l : Line) → kind_in (data_of (value_of l)) ≡ kind l
 unfolding kind_in
-kind_is (reported.held k p c n i x f) = refl
+kind_is (reported.held k p c n i x f u) = refl
 kind_is l = refl
 
 -- ---- two objects of one kind
@@ -154,9 +160,9 @@ number_at key value = number_in (at_key key value)
 abbrev at_each : List ℕ → Option Data → Data
 at_each key value = value_at key (at_key (codes "each") value)
 
-one_held : (k l : ℕ) (p q : List (List ℕ)) (c d : List ℕ) (m n : ℕ) (i j x y : Caps) (f g : Finding) → HasBytes (reported.held k p c m i x f) → HasBytes (reported.held l q d n j y g)
-    → value_of (reported.held k p c m i x f) ≡ value_of (reported.held l q d n j y g) → TellTheSame (reported.held k p c m i x f) (reported.held l q d n j y g) × TellMore (reported.held k p c m i x f) (reported.held l q d n j y g)
-one_held k l p q c d m n i j x y f g fit fits same = (
+one_held : (k l : ℕ) (p q : List (List ℕ)) (c d : List ℕ) (m n : ℕ) (i j x y : Caps) (f g : Finding) (a b : Bool) → HasBytes (reported.held k p c m i x f a) → HasBytes (reported.held l q d n j y g b)
+    → value_of (reported.held k p c m i x f a) ≡ value_of (reported.held l q d n j y g b) → TellTheSame (reported.held k p c m i x f a) (reported.held l q d n j y g b) × TellMore (reported.held k p c m i x f a) (reported.held l q d n j y g b)
+one_held k l p q c d m n i j x y f g a b fit fits same = (
   (
     one_spelling (path_text p) (path_text q) fit.0 fits.0 (ap (at_key (codes "path")) same),
     one_spelling c d fit.1 fits.1 (ap (at_key (codes "client")) same),
@@ -165,6 +171,7 @@ one_held k l p q c d m n i j x y f g fit fits same = (
     one_set f.caps g.caps (ap (at_key (codes "may_not")) same),
     one_set_or_none (minus f.caps x) (minus g.caps y) (ap (at_key (codes "being_revoked")) same),
     one_why f.missing g.missing f.rules g.rules (ap (at_key (codes "rules")) same),
+    one_unjudged a b (ap (number_at (codes "unjudged_from")) same),
   ),
   (ap (number_at (codes "inode")) same, one_missing f.missing g.missing fit.2 fits.2 (ap (at_key (codes "missing")) same)),
 )
@@ -255,7 +262,7 @@ one_summary m n same =
 -- ---- two objects
 
 of_kind : (a b : Line) → kind a ≡ kind b → HasBytes a → HasBytes b → value_of a ≡ value_of b → TellTheSame a b × TellMore a b
-of_kind (reported.held k p c m i x f) (reported.held l q d n j y g) e fit fits same = one_held k l p q c d m n i j x y f g fit fits same
+of_kind (reported.held k p c m i x f a) (reported.held l q d n j y g b) e fit fits same = one_held k l p q c d m n i j x y f g a b fit fits same
 of_kind (reported.group c f m) (reported.group d g n) e fit fits same = (one_group c d f g m n fit fits same, tt)
 of_kind (reported.conflict m p a b c) (reported.conflict n q x y d) e fit fits same = one_conflict m n p q a b x y c d fit fits same
 of_kind (reported.conflict_group a b c m) (reported.conflict_group x y d n) e fit fits same = (one_conflict_group a b x y c d m n fit fits same, tt)

@@ -1,5 +1,5 @@
 -- What clients of a cluster hold and may not.
-use Rattle.std.specs.Prelude.{◌≡◌, ◌⊎◌, ◌==◌, ◌||◌, ℕ, Bool, not, is_some, if◌then◌else◌, Option, Some, None, option_and_then, Ok, List, [], ◌∷◌, ◌++◌, length, find}
+use Rattle.std.specs.Prelude.{◌≡◌, ◌⊎◌, ◌==◌, ◌||◌, ℕ, Bool, false, not, is_some, if◌then◌else◌, Option, Some, None, option_and_then, option_map, unwrap_or, Ok, List, [], ◌∷◌, ◌++◌, length, find}
 use Rattle.std.specs.Option.{option_or}
 use Rattle.std.specs.Prelude.{bytes_eq, IsTrue}
 use Rattle.std.specs.FinMap as map
@@ -20,7 +20,7 @@ use Rattle.cluster_audit.specs.declared.conflict.Conflict.{Conflict}
 use Rattle.cluster_audit.specs.declared.conflict.Holding.{Holding}
 use Rattle.cluster_audit.specs.Conflicts.{conflicts_of}
 use Rattle.cluster_audit.specs.Callers.{Inode, IsPermittedToSome, inode}
-use Rattle.cluster_audit.specs.Findings.{IsBeyond}
+use Rattle.cluster_audit.specs.Findings.{IsBeyond, is_unjudged}
 use Rattle.cluster_audit.specs.Known.{AreKnown, Known}
 use Rattle.texts.specs.declared.shape.Shape.{Shape}
 use Rattle.texts.specs.Shapes.{nothing_in}
@@ -64,37 +64,41 @@ session_of sessions number = find (λ s. s.number == number) sessions
 abbrev pub name_of : List Known → ℕ → Option (List ℕ)
 name_of sessions number = option_and_then (λ s. s.client) (session_of sessions number)
 
+-- whether its client is known not to check itself
+abbrev pub is_unchecked : List Known → ℕ → Bool
+is_unchecked sessions number = unwrap_or (option_map (λ s. s.unchecked) (session_of sessions number)) false
+
 -- ---- what is said of one who holds something
 
 -- all of it is permitted to somebody, and nothing is said; else a line tells what is not
-abbrev pub IsReportedBeyond : Manner → ℕ → Inode → List ℕ → ℕ → List Grant → Caps → Caps → List ℕ → Type 0
-IsReportedBeyond m number i client session grants issued pending found = (((cap : Cap) → IsTrue (has issued cap) → IsPermittedToSome i grants cap) × (found ≡ []))
-    ⊎ ((f : Finding) × IsBeyond issued grants i f × (found ≡ found_in m number i.path client session issued pending f))
+abbrev pub IsReportedBeyond : Manner → ℕ → Inode → List ℕ → ℕ → Bool → List Grant → Caps → Caps → List ℕ → Type 0
+IsReportedBeyond m number i client session unchecked grants issued pending found = (((cap : Cap) → IsTrue (has issued cap) → IsPermittedToSome i grants cap) × (found ≡ []))
+    ⊎ ((f : Finding) × IsBeyond issued grants i f × (found ≡ found_in m number i.path client session issued pending f (is_unjudged unchecked f.caps)))
 
 -- what is known to be held is judged by these grants; else a line says that it is not known
-abbrev pub IsJudged : Manner → ℕ → Inode → List ℕ → List Grant → Held → List ℕ → List ℕ → Type 0
-IsJudged m number i client grants h found unknown = ((issued : Caps) × (pending : Caps) × (h.issued ≡ text_of issued) × (h.pending ≡ text_of pending) × IsReportedBeyond m number i client h.client grants issued pending found × (unknown ≡ []))
+abbrev pub IsJudged : Manner → ℕ → Inode → List ℕ → Bool → List Grant → Held → List ℕ → List ℕ → Type 0
+IsJudged m number i client unchecked grants h found unknown = ((issued : Caps) × (pending : Caps) × (h.issued ≡ text_of issued) × (h.pending ≡ text_of pending) × IsReportedBeyond m number i client h.client unchecked grants issued pending found × (unknown ≡ []))
     ⊎ (((issued pending : Caps) → h.issued ≡ text_of issued → h.pending ≡ text_of pending → ⊥) × (found ≡ []) × (unknown ≡ bad_caps_in m.shape number i.path client h.client))
 
 -- the grants are those that the text means; else a line tells its first fault
-abbrev pub IsJudgedBy : Manner → ℕ → Inode → List ℕ → Held → List ℕ → List ℕ → List ℕ → Type 0
-IsJudgedBy m number i client h text found unknown = ((grants : List Grant) × Reads text grants × IsJudged m number i client grants h found unknown)
+abbrev pub IsJudgedBy : Manner → ℕ → Inode → List ℕ → Bool → Held → List ℕ → List ℕ → List ℕ → Type 0
+IsJudgedBy m number i client unchecked h text found unknown = ((grants : List Grant) × Reads text grants × IsJudged m number i client unchecked grants h found unknown)
     ⊎ ((fault : SpecFault) × IsFault text fault × (found ≡ []) × (unknown ≡ unread_in m.shape client fault))
 
 -- the same of the text that the auth list has of a client; one that has none is permitted nothing
-abbrev pub SaysOfCaps : Manner → ℕ → Inode → List ℕ → Held → Option (List ℕ) → List ℕ → List ℕ → Type 0
-SaysOfCaps m number i client h None found unknown = IsJudged m number i client [] h found unknown
-SaysOfCaps m number i client h (Some text) found unknown = IsJudgedBy m number i client h text found unknown
+abbrev pub SaysOfCaps : Manner → ℕ → Inode → List ℕ → Bool → Held → Option (List ℕ) → List ℕ → List ℕ → Type 0
+SaysOfCaps m number i client unchecked h None found unknown = IsJudged m number i client unchecked [] h found unknown
+SaysOfCaps m number i client unchecked h (Some text) found unknown = IsJudgedBy m number i client unchecked h text found unknown
 
 -- of the entry that the auth list has of it
-abbrev pub SaysOfEntity : Manner → ℕ → Inode → List ℕ → Held → Option Named → List ℕ → List ℕ → Type 0
-SaysOfEntity m number i client h None found unknown = (found ≡ []) × (unknown ≡ unlisted_in m.shape client)
-SaysOfEntity m number i client h (Some e) found unknown = SaysOfCaps m number i client h e.caps found unknown
+abbrev pub SaysOfEntity : Manner → ℕ → Inode → List ℕ → Bool → Held → Option Named → List ℕ → List ℕ → Type 0
+SaysOfEntity m number i client unchecked h None found unknown = (found ≡ []) × (unknown ≡ unlisted_in m.shape client)
+SaysOfEntity m number i client unchecked h (Some e) found unknown = SaysOfCaps m number i client unchecked h e.caps found unknown
 
 -- of the name of it that is known
 abbrev pub SaysOfName : Clients → ℕ → Inode → Held → Option (List ℕ) → List ℕ → List ℕ → Type 0
 SaysOfName known number i h None found unknown = (found ≡ []) × (unknown ≡ unnamed_in known.manner.shape h.client)
-SaysOfName known number i h (Some client) found unknown = SaysOfEntity known.manner number i client h (find (λ e. bytes_eq e.name client) known.entities) found unknown
+SaysOfName known number i h (Some client) found unknown = SaysOfEntity known.manner number i client (is_unchecked known.sessions h.client) h (find (λ e. bytes_eq e.name client) known.entities) found unknown
 
 -- of one who holds something of the inode of this number
 abbrev pub SaysOf : Clients → ℕ → Inode → Held → List ℕ → List ℕ → Type 0

@@ -1,5 +1,5 @@
 -- What a client holds beyond what anybody behind its key is permitted, and why.
-use Rattle.std.specs.Prelude.{◌≡◌, ◌≢◌, ◌↔◌, Option, Some, None, List, [], ◌++◌, length, filter_map, IfSome, IsTrue, if◌then◌else◌}
+use Rattle.std.specs.Prelude.{◌≡◌, ◌≢◌, ◌↔◌, ◌&&◌, Bool, Option, Some, None, List, [], ◌++◌, length, filter_map, IfSome, IsTrue, if◌then◌else◌}
 use Rattle.capbits.specs.declared.cap.Cap.{Cap}
 use Rattle.capbits.specs.Caps.{Caps, has}
 use Rattle.capbits.specs.Sets.{no_caps}
@@ -16,6 +16,10 @@ use Rattle.cluster_audit.specs.Callers.{Inode, IsPermittedToSome, wanted_of}
 -- the least access that would permit some of these caps; None where no access does
 abbrev pub least_access : Caps → Option Access
 least_access caps = if has_any caps (for_either ++ for_readers) then Some Read else (if has_any caps for_writers then Some Write else None)
+
+-- some of these caps are those of a writer, whose client is known not to check itself: from Ceph 18 on no MDS judges what it writes back by them
+abbrev pub is_unjudged : Bool → Caps → Bool
+is_unjudged unchecked caps = unchecked && has_any caps for_writers
 
 -- the first rule by which a grant denies the access to its own user, who is in all of the groups that it lists
 abbrev pub reason : Inode → Access → Grant → Option Rule

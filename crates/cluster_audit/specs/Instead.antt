@@ -11,7 +11,7 @@ use Rattle.cluster_audit.specs.Reported.{unread}
 
 -- the value of the object, which stands in the place of each line but the one that says that nothing is found
 abbrev pub value_of : Line → Option Data
-value_of (held number path client session issued pending found) = Some (found_value number path client session issued pending found)
+value_of (held number path client session issued pending found unjudged) = Some (found_value number path client session issued pending found unjudged)
 value_of (group client found count) = Some (group_value count (alike_value client found))
 value_of (conflict number path one other c) = Some (conflict_value number path one other c)
 value_of (conflict_group one other c count) = Some (group_value count (conflict_group_value one other c))
@@ -27,7 +27,7 @@ value_of (summary n) = Some (counts_value n)
 
 -- its texts are bytes, and the access that is missing has 32 bits where it has a number
 abbrev pub HasBytes : Line → Type 0
-HasBytes (held number path client session issued pending f) = IsBytes (path_text path) × IsBytes client × IfSome f.missing HasNumber
+HasBytes (held number path client session issued pending f unjudged) = IsBytes (path_text path) × IsBytes client × IfSome f.missing HasNumber
 HasBytes (group client f count) = IsBytes client
 HasBytes (conflict number path one other c) = IfSome path (λ names. IsBytes (path_text names)) × IfSome one IsBytes × IfSome other IsBytes
 HasBytes (conflict_group one other c count) = IfSome one IsBytes × IfSome other IsBytes
@@ -41,7 +41,7 @@ HasBytes line = Unit {0}
 
 -- what no line tells: the number of an inode that has a path, and which access is missing
 abbrev pub TellMore : Line → Line → Type 0
-TellMore (held k p c m i x f) (held l q d n j y g) = (k ≡ l) × (f.missing ≡ g.missing)
+TellMore (held k p c m i x f u) (held l q d n j y g v) = (k ≡ l) × (f.missing ≡ g.missing)
 TellMore (conflict m p a b c) (conflict n q x y d) = m ≡ n
 TellMore (bad_caps k p c m) (bad_caps l q d n) = k ≡ l
 TellMore a b = Unit {0}

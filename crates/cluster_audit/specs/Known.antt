@@ -3,14 +3,16 @@ use Rattle.std.specs.Prelude.{◌≡◌, ℕ, Bool, not, ◌&&◌, is_some, if�
 use Rattle.ceph_input.specs.Auth.{Named}
 use Rattle.ceph_input.specs.Sessions.{Connected, KeyName, sessions_of}
 
--- a session: its number, the name of its client in the auth list, if it tells one, and what it calls itself otherwise, if it does
+-- a session: its number, the name of its client in the auth list, if it tells one, what it calls itself otherwise, if it does, and whether it is
+-- known not to check itself
 pub record Known : Type 0 where
   pub number : ℕ
   pub client : Option (List ℕ)
   pub alias : Option (List ℕ)
+  pub unchecked : Bool
 
-abbrev pub known : ℕ → Option (List ℕ) → Option (List ℕ) → Known
-known number client alias = record { number = number; client = client; alias = alias }
+abbrev pub known : ℕ → Option (List ℕ) → Option (List ℕ) → Bool → Known
+known number client alias unchecked = record { number = number; client = client; alias = alias; unchecked = unchecked }
 
 abbrev pub is_listed : List Named → List ℕ → Bool
 is_listed entities name = is_some (find (λ e. bytes_eq e.name name) entities)
@@ -41,7 +43,7 @@ alias_of (Some k) None = None
 alias_of (Some k) (Some id) = if bytes_eq k.id id then None else Some id
 
 abbrev pub known_as : List Named → Connected → Known
-known_as entities s = known s.number (told_name entities s.key s.entity) (alias_of s.key s.entity)
+known_as entities s = known s.number (told_name entities s.key s.entity) (alias_of s.key s.entity) s.unchecked
 
 -- the text means sessions, and these are they by the names that the list has
 abbrev pub AreKnown : List Named → List ℕ → List Known → Type 0

@@ -1,5 +1,5 @@
 -- What an audit finds, as objects of JSON.
-use Rattle.std.specs.Prelude.{ℕ, if◌then◌else◌, List, [], ◌∷◌, ◌++◌, Option, Some, None, codes}
+use Rattle.std.specs.Prelude.{ℕ, Bool, if◌then◌else◌, List, [], ◌∷◌, ◌++◌, Option, Some, None, codes}
 use Rattle.std.specs.Fmt.{decimal}
 use Rattle.serde_json.specs.Data.{Data, null, string}
 use Rattle.capbits.specs.Caps.{Caps}
@@ -45,29 +45,34 @@ group_table client f = (codes "kind", string (codes "held-beyond"))
     ∷ (codes "rules", why_value f.missing f.rules)
     ∷ []
 
--- the least access that would permit some of it, where, in which session, what is held, what of it nobody is permitted, and what of that is
--- being revoked already
-abbrev pub held_table : ℕ → List (List ℕ) → ℕ → Caps → Caps → Finding → Table
-held_table number path session issued pending f = (codes "missing", or_null access_value f.missing)
+-- the first Ceph of which no MDS judges what is written back by it; null where somebody does
+abbrev pub unjudged_value : Bool → Data
+unjudged_value unjudged = if unjudged then natural 18 else null
+
+-- the least access that would permit some of it, where, in which session, what is held, what of it nobody is permitted, what of that is
+-- being revoked already, and whether nobody judges what is written back by it
+abbrev pub held_table : ℕ → List (List ℕ) → ℕ → Caps → Caps → Finding → Bool → Table
+held_table number path session issued pending f unjudged = (codes "missing", or_null access_value f.missing)
     ∷ (codes "inode", natural number)
     ∷ (codes "path", path_value path)
     ∷ (codes "session", natural session)
     ∷ (codes "holds", caps_value issued)
     ∷ (codes "may_not", caps_value f.caps)
     ∷ (codes "being_revoked", caps_or_null (minus f.caps pending))
+    ∷ (codes "unjudged_from", unjudged_value unjudged)
     ∷ []
 
 -- a client holds of an inode what nobody behind its key is permitted
-abbrev pub found_value : ℕ → List (List ℕ) → List ℕ → ℕ → Caps → Caps → Finding → Data
-found_value number path client session issued pending f = object_of (group_table client f ++ held_table number path session issued pending f)
+abbrev pub found_value : ℕ → List (List ℕ) → List ℕ → ℕ → Caps → Caps → Finding → Bool → Data
+found_value number path client session issued pending f unjudged = object_of (group_table client f ++ held_table number path session issued pending f unjudged)
 
 -- what all that is found so of it has in common
 abbrev pub alike_value : List ℕ → Finding → Data
 alike_value client f = object_of (group_table client f)
 
-abbrev pub found_object : Detail → ℕ → List (List ℕ) → List ℕ → ℕ → Caps → Caps → Finding → List ℕ
-found_object Each number path client session issued pending f = json_line (found_value number path client session issued pending f)
-found_object Groups number path client session issued pending f = json_line (alike_value client f)
+abbrev pub found_object : Detail → ℕ → List (List ℕ) → List ℕ → ℕ → Caps → Caps → Finding → Bool → List ℕ
+found_object Each number path client session issued pending f unjudged = json_line (found_value number path client session issued pending f unjudged)
+found_object Groups number path client session issued pending f unjudged = json_line (alike_value client f)
 
 -- ---- what two sessions hold together
 

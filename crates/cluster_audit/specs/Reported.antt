@@ -1,5 +1,5 @@
 -- What a line of an audit tells.
-use Rattle.std.specs.Prelude.{◌≡◌, ℕ, ◌<◌, ◌^◌, Option, Some, None, List, [], ◌∷◌, All}
+use Rattle.std.specs.Prelude.{◌≡◌, ℕ, ◌<◌, ◌^◌, Bool, Option, Some, None, List, [], ◌∷◌, All}
 use Rattle.std.specs.List.{flat_map}
 use Rattle.capbits.specs.Caps.{Caps}
 use Rattle.capbits.specs.Sets.{minus}
@@ -20,8 +20,9 @@ use Rattle.cluster_audit.specs.Shaped.{counted_in}
 
 -- a line of an audit, by what its text is made of
 pub data Line : Type 0 where
-  -- of this inode, at this path, this client in this session was issued and is left to hold; and what of it nobody is permitted
-  held : ℕ → List (List ℕ) → List ℕ → ℕ → Caps → Caps → Finding → Line
+  -- of this inode, at this path, this client in this session was issued and is left to hold; what of it nobody is permitted, and whether
+  -- nobody judges what is written back by that
+  held : ℕ → List (List ℕ) → List ℕ → ℕ → Caps → Caps → Finding → Bool → Line
   -- how many lines of a client are so
   group : List ℕ → Finding → ℕ → Line
   -- of this inode, to which a path may lead, two sessions, each with the name that it may tell, hold what no two may hold
@@ -41,7 +42,7 @@ pub data Line : Type 0 where
   summary : Counts → Line
 
 abbrev pub line_text : Line → List ℕ
-line_text (held number path client session issued pending found) = held_line path client session issued pending found
+line_text (held number path client session issued pending found unjudged) = held_line path client session issued pending found unjudged
 line_text (group client found count) = counted_in Lines (group_text client found) count
 line_text (conflict number path one other c) = conflict_line Each number path one other c
 line_text (conflict_group one other c count) = counted_in Lines (conflict_text Groups one other c) count
@@ -66,7 +67,7 @@ pub record AreCounts (n : Counts) : Type 0 where
   pub not_judged : n.not_judged < 2 ^ 64
 
 abbrev pub HasNumbers : Line → Type 0
-HasNumbers (held number path client session issued pending found) = session < 2 ^ 64
+HasNumbers (held number path client session issued pending found unjudged) = session < 2 ^ 64
 HasNumbers (group client found count) = count < 2 ^ 64
 HasNumbers (conflict number path one other c) = (number < 2 ^ 64) × (c.one.client < 2 ^ 64) × (c.other.client < 2 ^ 64)
 HasNumbers (conflict_group one other c count) = (count < 2 ^ 64) × (c.one.client < 2 ^ 64) × (c.other.client < 2 ^ 64)
@@ -100,8 +101,8 @@ IsOneClient m (Some c) n (Some d) = c ≡ d
 IsOneClient m c n d = ⊥
 
 abbrev pub TellTheSame : Line → Line → Type 0
-TellTheSame (held k p c m i x f) (held l q d n j y g) =
-    (path_text p ≡ path_text q) × (c ≡ d) × (m ≡ n) × (i ≡ j) × (f.caps ≡ g.caps) × (minus f.caps x ≡ minus g.caps y) × (reasons f.missing f.rules ≡ reasons g.missing g.rules)
+TellTheSame (held k p c m i x f u) (held l q d n j y g v) =
+    (path_text p ≡ path_text q) × (c ≡ d) × (m ≡ n) × (i ≡ j) × (f.caps ≡ g.caps) × (minus f.caps x ≡ minus g.caps y) × (reasons f.missing f.rules ≡ reasons g.missing g.rules) × (u ≡ v)
 TellTheSame (group c f m) (group d g n) = (reasons f.missing f.rules ≡ reasons g.missing g.rules) × (c ≡ d) × (m ≡ n)
 TellTheSame (conflict m p a b c) (conflict n q x y d) = IsOneInode m p n q × (a ≡ x) × (b ≡ y) × (c ≡ d)
 TellTheSame (conflict_group a b c m) (conflict_group x y d n) =

@@ -1,5 +1,5 @@
 -- What an audit says, as lines or as objects.
-use Rattle.std.specs.Prelude.{ℕ, List, ◌++◌, codes, Option}
+use Rattle.std.specs.Prelude.{ℕ, Bool, List, ◌++◌, codes, Option}
 use Rattle.std.specs.Fmt.{decimal}
 use Rattle.capbits.specs.Caps.{Caps}
 use Rattle.capspec.specs.declared.fault.SpecFault.{SpecFault}
@@ -25,12 +25,13 @@ in_shape Objects line object = object
 -- ---- what is found
 
 -- the line for what is held beyond grants, or that for all that is found so of the client
-abbrev pub found_line : Detail → List (List ℕ) → List ℕ → ℕ → Caps → Caps → Finding → List ℕ
-found_line Each path client session issued pending f = held_line path client session issued pending f
-found_line Groups path client session issued pending f = group_line client f
+abbrev pub found_line : Detail → List (List ℕ) → List ℕ → ℕ → Caps → Caps → Finding → Bool → List ℕ
+found_line Each path client session issued pending f unjudged = held_line path client session issued pending f unjudged
+found_line Groups path client session issued pending f unjudged = group_line client f
 
-abbrev pub found_in : Manner → ℕ → List (List ℕ) → List ℕ → ℕ → Caps → Caps → Finding → List ℕ
-found_in m number path client session issued pending f = in_shape m.shape (found_line m.detail path client session issued pending f) (found_object m.detail number path client session issued pending f)
+abbrev pub found_in : Manner → ℕ → List (List ℕ) → List ℕ → ℕ → Caps → Caps → Finding → Bool → List ℕ
+found_in m number path client session issued pending f unjudged =
+    in_shape m.shape (found_line m.detail path client session issued pending f unjudged) (found_object m.detail number path client session issued pending f unjudged)
 
 -- the same of two sessions in conflict on an inode
 abbrev pub conflict_in : Manner → ℕ → Option (List (List ℕ)) → Option (List ℕ) → Option (List ℕ) → Conflict → List ℕ

@@ -36,7 +36,7 @@ impl Model for ClusterClients {
 impl ClusterClients {
     ghost use Rattle.std.specs.Prelude.{IfOk, IfErr, find, bytes_eq};
     ghost use Rattle.ceph_input.specs.FsNames.{AreFsNames};
-    ghost use Rattle.cluster_audit.specs.Audited.{AreClients, IsFaultOfClients, name_of};
+    ghost use Rattle.cluster_audit.specs.Audited.{AreClients, IsFaultOfClients, is_unchecked, name_of};
 
     /// The clients that two texts mean: the auth list, as `ceph auth ls -f json` prints it, and the sessions, as `ceph tell mds.N
     /// session ls` does. Who calls itself `x` is `client.x`, or `mgr.x` where the list has that alone. The fault is that of the first
@@ -72,6 +72,16 @@ impl ClusterClients {
         ensures { option_map (λ name. name.now) result ≡ name_of self.now.sessions session }
     {
         session_of(self.sessions.as_slice(), session)?.client()
+    }
+
+    // Whether the client in the session of this number is known not to check by its grants what it changes.
+    pub(crate) fn is_unchecked(&self, session: u64) -> bool
+        ensures { result ≡ is_unchecked self.now.sessions session }
+    {
+        match session_of(self.sessions.as_slice(), session) {
+            None => false,
+            Some(session) => session.is_unchecked(),
+        }
     }
 
     // The entry that the auth list has of the client of this name.

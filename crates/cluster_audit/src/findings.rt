@@ -5,6 +5,7 @@ ghost use Rattle.locktable.specs.Targets.{has_any};
 ghost use Rattle.capbits.specs.declared.caller.Caller.{Caller};
 ghost use Rattle.capbits.specs.declared.cap.Cap.{Cap};
 ghost use Rattle.capbits.specs.Caps.{has};
+ghost use Rattle.capgrant.specs.Permitted.{for_writers};
 ghost use Rattle.capgrant.specs.Verdict.{granted};
 ghost use Rattle.cluster_audit.specs.Callers.{IsPermittedToSome, asked};
 ghost use Rattle.cluster_audit.specs.Findings.{IsBeyond, least_access, reason, reasons};
@@ -37,6 +38,15 @@ impl Drop for Finding {
             missing: _,
             rules: _,
         } = self;
+    }
+}
+
+impl Finding {
+    // Whether some of the caps are those of a writer, by which what is changed is written back.
+    pub(crate) fn has_writers_caps(&self) -> bool
+        ensures { result ≡ has_any self.now.caps for_writers }
+    {
+        has_any(self.caps, writers_caps())
     }
 }
 

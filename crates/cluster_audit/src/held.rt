@@ -1,6 +1,9 @@
 //! What an audit looks at together.
+ghost use Rattle.std.specs.Prelude.{◌≡◌};
+ghost use Rattle.cluster_audit.specs.Findings.{is_unjudged};
 
 use crate::conflict::Conflict;
+use crate::findings::Finding;
 use crate::inode::Inode;
 use capbits::CapSet;
 use ceph_input::Holder;
@@ -11,9 +14,10 @@ pub(crate) struct Entry<'a> {
     // The number of the inode.
     pub(crate) number: u64,
     pub(crate) inode: &'a Inode<'a>,
-    // The name that the client's session tells.
+    // The name of the client, and whether it is known not to check itself.
     pub(crate) client: &'a [u8],
-    // The number of that session, and the texts of the caps.
+    pub(crate) unchecked: bool,
+    // The number of its session, and the texts of the caps.
     pub(crate) holder: &'a Holder,
 }
 
@@ -26,9 +30,20 @@ pub(crate) struct Held<'a> {
     // The name of the client, and the number of its session.
     pub(crate) client: &'a [u8],
     pub(crate) session: u64,
+    // Whether the client is known not to check itself.
+    pub(crate) unchecked: bool,
     // The caps that it may still hold, and of these those that are not being revoked.
     pub(crate) issued: CapSet,
     pub(crate) pending: CapSet,
+}
+
+impl Held<'_> {
+    // Whether from Ceph 18 on nobody judges what is written back by the caps that are found: no MDS does, and the client does not.
+    pub(crate) fn is_unjudged(&self, found: &Finding) -> bool
+        ensures { result ≡ is_unjudged self.now.unchecked found.now.caps }
+    {
+        self.unchecked && found.has_writers_caps()
+    }
 }
 
 // Two sessions in conflict on an inode.

@@ -1,6 +1,7 @@
 //! What is said of one who holds something of an inode.
 ghost use Rattle.std.specs.Prelude.{◌≡◌, ◌++◌, OnOk, map};
 ghost use Rattle.std.specs.List.{flat_map};
+ghost use Rattle.cluster_audit.specs.Findings.{is_unjudged};
 ghost use Rattle.cluster_audit.specs.Shaped.{found_in};
 ghost use Rattle.cluster_audit.specs.Audited.{Adds, IsJudged, IsJudgedBy, SaysOf, clients_of, pathless_of};
 
@@ -42,6 +43,7 @@ pub(crate) fn note_holder(
         number,
         inode,
         client,
+        unchecked: clients.is_unchecked(session),
         holder,
     };
     match entity.caps() {
@@ -93,7 +95,7 @@ fn note_by_text(
     entry: &Entry<'_>,
     text: &[u8],
 ) -> Result<(), AllocError>
-    ensures { OnOk result (Adds (IsJudgedBy manner entry.now.number entry.now.inode.now entry.now.client.now entry.now.holder.now text.now) notes.old notes.new) }
+    ensures { OnOk result (Adds (IsJudgedBy manner entry.now.number entry.now.inode.now entry.now.client.now entry.now.unchecked entry.now.holder.now text.now) notes.old notes.new) }
 {
     match read_grants(*notes.unknown.allocator(), text) {
         Ok(grants) => note_judged(manner, notes, entry, &grants),
@@ -111,7 +113,7 @@ fn note_judged(
     entry: &Entry<'_>,
     grants: &Grants,
 ) -> Result<(), AllocError>
-    ensures { OnOk result (Adds (IsJudged manner entry.now.number entry.now.inode.now entry.now.client.now grants.now entry.now.holder.now) notes.old notes.new) }
+    ensures { OnOk result (Adds (IsJudged manner entry.now.number entry.now.inode.now entry.now.client.now entry.now.unchecked grants.now entry.now.holder.now) notes.old notes.new) }
 {
     let number = entry.number;
     let inode = entry.inode;
@@ -143,6 +145,7 @@ fn note_judged(
         path: inode.path,
         client,
         session,
+        unchecked: entry.unchecked,
         issued,
         pending,
     };
@@ -160,7 +163,8 @@ fn print_finding(
     found: &Finding,
 ) -> Result<(), AllocError>
     ensures { OnOk result (text.new.items ≡ text.old.items
-        ++ found_in manner held.now.number (map (λ name. name.now) held.now.path.now) held.now.client.now held.now.session held.now.issued held.now.pending found.now) }
+        ++ found_in manner held.now.number (map (λ name. name.now) held.now.path.now) held.now.client.now held.now.session held.now.issued held.now.pending found.now
+        (is_unjudged held.now.unchecked found.now.caps)) }
 {
     let detail = manner.detail;
     match (manner.shape, detail) {

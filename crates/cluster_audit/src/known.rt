@@ -11,6 +11,7 @@ pub(crate) struct KnownSession {
     number: u64,
     client: Option<Vec<u8>>,
     alias: Option<Vec<u8>>,
+    unchecked: bool,
 }
 
 // Not derived: so the proof of a function that drops one has a single call there.
@@ -20,6 +21,7 @@ impl Drop for KnownSession {
             number: _,
             client: _,
             alias: _,
+            unchecked: _,
         } = self;
     }
 }
@@ -30,7 +32,7 @@ impl Model for KnownSession {
 
     ghost Value = { Known };
 
-    ghost view = { λ s. known s.number (option_map (λ name. name.items) s.client) (option_map (λ id. id.items) s.alias) };
+    ghost view = { λ s. known s.number (option_map (λ name. name.items) s.client) (option_map (λ id. id.items) s.alias) s.unchecked };
 }
 
 impl KnownSession {
@@ -54,6 +56,7 @@ impl KnownSession {
             number: session.number(),
             client,
             alias,
+            unchecked: session.is_unchecked(),
         })
     }
 
@@ -82,6 +85,13 @@ impl KnownSession {
             None => None,
             Some(id) => Some(id.as_slice()),
         }
+    }
+
+    // Whether its client is known not to check by its grants what it changes.
+    pub(crate) fn is_unchecked(&self) -> bool
+        ensures { result ≡ self.now.unchecked }
+    {
+        self.unchecked
     }
 }
 

@@ -1,8 +1,9 @@
 //! The lines of an audit.
-ghost use Rattle.std.specs.Prelude.{◌≡◌, ◌++◌, OnOk, map};
+ghost use Rattle.std.specs.Prelude.{◌≡◌, ◌++◌, OnOk, codes, map};
 ghost use Rattle.texts.specs.Explaining.{path_text};
 ghost use Rattle.texts.specs.Quoting.{quoted};
-ghost use Rattle.cluster_audit.specs.Lines.{bad_caps_line, beyond_text, group_line, held_line, pathless_line, place_text, revoked_text, who_text, why_text};
+ghost use Rattle.cluster_audit.specs.Findings.{is_unjudged};
+ghost use Rattle.cluster_audit.specs.Lines.{bad_caps_line, beyond_text, group_line, held_line, pathless_line, place_text, revoked_text, unjudged_text, who_text, why_text};
 
 use crate::findings::Finding;
 use crate::held::Held;
@@ -17,11 +18,23 @@ pub(crate) fn print_held(
     found: &Finding,
 ) -> Result<(), AllocError>
     ensures { OnOk result (text.new.items ≡ text.old.items
-        ++ held_line (map (λ name. name.now) held.now.path.now) held.now.client.now held.now.session held.now.issued held.now.pending found.now) }
+        ++ held_line (map (λ name. name.now) held.now.path.now) held.now.client.now held.now.session held.now.issued held.now.pending found.now
+        (is_unjudged held.now.unchecked found.now.caps)) }
 {
     print_place(text, held.path, held.client, held.session)?;
     print_beyond(text, held.issued, held.pending, found)?;
-    print_str(text, "\n")
+    print_str(text, line_end(held.is_unjudged(found)))
+}
+
+// What ends the line for what is held, by whether nobody judges what is written back by it.
+fn line_end(unjudged: bool) -> &'static str
+    ensures { result.now ≡ unjudged_text unjudged ++ codes "\n" }
+{
+    if unjudged {
+        " (unjudged from Ceph 18 on)\n"
+    } else {
+        "\n"
+    }
 }
 
 // Appends why a client holds what nobody behind its key is permitted, and which client, by which such lines are counted.

@@ -3,7 +3,8 @@ ghost use Rattle.std.specs.Prelude.{◌≡◌, ◌++◌, OnOk, map, option_map};
 ghost use Rattle.capbits.specs.Sets.{minus};
 ghost use Rattle.texts.specs.Pieces.{piece_value};
 ghost use Rattle.texts.specs.Values.{bytes_value, or_null};
-ghost use Rattle.cluster_audit.specs.Objects.{access_value, caps_or_null, conflict_object, found_object, group_object, path_value, session_value, why_value};
+ghost use Rattle.cluster_audit.specs.Findings.{is_unjudged};
+ghost use Rattle.cluster_audit.specs.Objects.{access_value, caps_or_null, conflict_object, found_object, group_object, path_value, session_value, unjudged_value, why_value};
 
 use crate::findings::Finding;
 use crate::held::{Held, NamedConflict};
@@ -27,7 +28,8 @@ pub(crate) fn print_found<'x>(
     found: &'x Finding,
 ) -> Result<(), AllocError>
     ensures { OnOk result (text.new.items ≡ text.old.items
-        ++ found_object detail held.now.number (map (λ name. name.now) held.now.path.now) held.now.client.now held.now.session held.now.issued held.now.pending found.now) }
+        ++ found_object detail held.now.number (map (λ name. name.now) held.now.path.now) held.now.client.now held.now.session held.now.issued held.now.pending found.now
+        (is_unjudged held.now.unchecked found.now.caps)) }
 {
     let table = [
         ("kind", Piece::Word("held-beyond")),
@@ -40,6 +42,7 @@ pub(crate) fn print_found<'x>(
         ("holds", Piece::Caps(held.issued)),
         ("may_not", Piece::Caps(found.caps)),
         ("being_revoked", revoked_if(found.caps, held.pending)),
+        ("unjudged_from", unjudged_if(held.is_unjudged(found))),
     ];
     match detail {
         Detail::Each => print_pieces(text, &table),
@@ -122,6 +125,17 @@ fn revoked_if(caps: CapSet, pending: CapSet) -> Piece<'static>
         Piece::Null
     } else {
         Piece::Caps(revoked)
+    }
+}
+
+// The first Ceph of which no MDS judges what is written back, where nobody else does.
+fn unjudged_if(unjudged: bool) -> Piece<'static>
+    ensures { piece_value result ≡ unjudged_value unjudged }
+{
+    if unjudged {
+        Piece::Number(18)
+    } else {
+        Piece::Null
     }
 }
 

@@ -1,10 +1,10 @@
-use Rattle.std.proofs.Common.{ℕ, List, ◌++◌, refl, sym, ap, subst, ◌∙◌}
+use Rattle.std.proofs.Common.{◌≡◌, ℕ, Bool, List, [], ◌++◌, refl, sym, ap, subst, ◌∙◌}
 use Rattle.std.proofs.lemmas.Result.{on_ok_weaker}
 use Rattle.capspec.specs.declared.grant.Grant.{Grant}
-use Rattle.cluster_audit.specs.Audited.{IsJudged, SaysOf, clients_of, name_of}
+use Rattle.cluster_audit.specs.Audited.{IsJudged, IsJudgedBy, SaysOf, clients_of, is_unchecked, name_of}
 use Rattle.cluster_audit.specs.Shaped.{unlisted_in, unnamed_in}
 use Rattle.cluster_audit.proofs.Noting.{unknown_added, added_too}
-use Rattle.cluster_audit.proofs.Saying.{unlisted, unnamed, without_caps}
+use Rattle.cluster_audit.proofs.Saying.{unlisted, unnamed, with_caps, without_caps}
 use Rattle.cluster_audit.proofs.holders.note_holder.Goals as goal
 
 pub returns-in_default : goal.returns-in_default
@@ -34,8 +34,24 @@ returns-in_ok-none-in-None c =
     let i = c.args.inode.now in
     let h = c.args.holder.now in
     let client = c.in-Some.client.now in
+    let unchecked : c.is_unchecked.result ≡ is_unchecked c.args.clients.now.sessions h.client = c.is_unchecked.ensures ∙ ap (is_unchecked c.args.clients.now.sessions) c.client-session.ensures in
     on_ok_weaker c.note_judged.result
-    (added_too (IsJudged c.args.manner c.args.number i client c.in_ok-none-in-None.none h) (SaysOf known c.args.number i h) c.args.notes.now c.note_judged.new.notes
+    (added_too (IsJudged c.args.manner c.args.number i client c.is_unchecked.result c.in_ok-none-in-None.none h) (SaysOf known c.args.number i h) c.args.notes.now c.note_judged.new.notes
     (λ found unknown judged. without_caps known c.args.number i h client (sym (c.in-Some.ensures ∙ ap (name_of c.args.clients.now.sessions) c.client-session.ensures)) c.in-Some-entity_of.entity.now (sym c.in-Some-entity_of.ensures) (sym c.in-None.ensures) found unknown
-    (subst (λ (grants : List Grant). IsJudged c.args.manner c.args.number i client grants h found unknown) c.in_ok-none-in-None.ensures judged)))
+    (subst (λ (u : Bool). IsJudged c.args.manner c.args.number i client u [] h found unknown) unchecked
+    (subst (λ (grants : List Grant). IsJudged c.args.manner c.args.number i client c.is_unchecked.result grants h found unknown) c.in_ok-none-in-None.ensures judged))))
     c.note_judged.ensures
+
+pub returns-in-Some-caps : goal.returns-in-Some-caps
+returns-in-Some-caps c =
+    let known = clients_of c.args.manner c.args.clients.now in
+    let i = c.args.inode.now in
+    let h = c.args.holder.now in
+    let client = c.in-Some.client.now in
+    let text = c.in-Some-caps.text.now in
+    let unchecked : c.is_unchecked.result ≡ is_unchecked c.args.clients.now.sessions h.client = c.is_unchecked.ensures ∙ ap (is_unchecked c.args.clients.now.sessions) c.client-session.ensures in
+    on_ok_weaker c.note_by_text.result
+    (added_too (IsJudgedBy c.args.manner c.args.number i client c.is_unchecked.result h text) (SaysOf known c.args.number i h) c.args.notes.now c.note_by_text.new.notes
+    (λ found unknown judged. with_caps known c.args.number i h client (sym (c.in-Some.ensures ∙ ap (name_of c.args.clients.now.sessions) c.client-session.ensures)) c.in-Some-entity_of.entity.now (sym c.in-Some-entity_of.ensures) text (sym c.in-Some-caps.ensures) found unknown
+    (subst (λ (u : Bool). IsJudgedBy c.args.manner c.args.number i client u h text found unknown) unchecked judged)))
+    c.note_by_text.ensures
