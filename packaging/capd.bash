@@ -6,7 +6,7 @@ _capd() {
     elif [[ ${COMP_WORDS[1]} == help ]]; then
         mapfile -t COMPREPLY < <(compgen -W 'explain grants compare lint who audit log run serve' -- "$word")
     elif [[ ${COMP_WORDS[1]} == log ]]; then
-        mapfile -t COMPREPLY < <(compgen -W '--fs --help' -- "$word")
+        mapfile -t COMPREPLY < <(compgen -W '--fs --denied --help' -- "$word")
     elif [[ ${COMP_WORDS[1]} == compare ]]; then
         mapfile -t COMPREPLY < <(compgen -W '--json --help' -- "$word")
     elif [[ $before == --mds ]]; then

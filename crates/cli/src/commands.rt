@@ -20,6 +20,7 @@ use cli_queries::{
     DENIED, DONE, FAILED, FOUND, Invocation, USAGE, audit, compare_texts, explain, gather, grants,
     keyring_file, lint, log, note, read_words, report, show, who,
 };
+use queries::LogScope;
 use std::alloc::Global;
 use std::fs::Files;
 use std::io::{Read, Write};
@@ -128,7 +129,13 @@ fn answer<T: Threads + Wait + Sync, R: Read, W: Write>(
         }
         Invocation::Who(who_args) => who(alloc, who_args, reader, writer),
         Invocation::Audit(audit_args) => audit(alloc, audit_args, reader, writer),
-        Invocation::Log(fs) => log(alloc, fs.as_slice(), reader, writer),
+        Invocation::Log { fs, only_denied } => {
+            let scope = LogScope {
+                fs: fs.as_slice(),
+                only_denied: *only_denied,
+            };
+            log(alloc, scope, reader, writer)
+        }
         Invocation::Run { more: _ } => return run_script(alloc, reader, writer),
         Invocation::Serve { more: _ } => return serve_script(rt, alloc, reader, writer),
     };

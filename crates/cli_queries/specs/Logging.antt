@@ -5,7 +5,7 @@ use Rattle.capspec.specs.Names.{IsFsName}
 use Rattle.texts.specs.declared.fault.ScriptFault.TheVariants as stops
 use Rattle.queries.specs.declared.fault.QuestionFault.TheVariants.{BadValue}
 use Rattle.queries.specs.declared.options.Opt.TheVariants.{Fs}
-use Rattle.queries.specs.Reported.{IsReportOf}
+use Rattle.queries.specs.Reported.{IsReportOf, Scope}
 use Rattle.queries.specs.LogPieces.{HasTold, Teller, TellsEnd, TellsPiece}
 use Rattle.cli_queries.specs.declared.fault.AnswerFault.{AnswerFault}
 use Rattle.cli_queries.specs.declared.fault.AnswerFault.TheVariants.{NoMemory, Question, Unread, WriteFailed}
@@ -19,17 +19,17 @@ abbrev pub status_of : Bool → ℕ
 status_of judged = if judged then 0 else 3
 
 -- the lines that tell of this log, and the status
-abbrev pub TellsLog : List ℕ → List ℕ → ℕ → List ℕ → Type 0
-TellsLog fs log status lines = (judged : Bool) × IsReportOf fs log lines judged × (status ≡ status_of judged)
+abbrev pub TellsLog : Scope → List ℕ → ℕ → List ℕ → Type 0
+TellsLog scope log status lines = (judged : Bool) × IsReportOf scope log lines judged × (status ≡ status_of judged)
 
--- the lines that tell of the log that was to be read were written, on the file system of this name
-pub record AnswersLog (fs : List ℕ) (input : Option (List ℕ)) (status : ℕ) (old new : Option (List ℕ)) : Type 0 where
-  pub named : IsFsName fs
-  pub reported : IfSome input (λ log. (lines : List ℕ) × TellsLog fs log status lines × Appends old new lines)
+-- the lines that tell of the log that was to be read were written
+pub record AnswersLog (scope : Scope) (input : Option (List ℕ)) (status : ℕ) (old new : Option (List ℕ)) : Type 0 where
+  pub named : IsFsName scope.fs
+  pub reported : IfSome input (λ log. (lines : List ℕ) × TellsLog scope log status lines × Appends old new lines)
 
 -- what was written tells of the first lines of the log
-abbrev pub TellsFirst : List ℕ → Option (List ℕ) → Option (List ℕ) → Option (List ℕ) → Type 0
-TellsFirst fs input old new = IfSome input (λ log. (front left reported : List ℕ) × (t : Teller) × (log ≡ front ++ left) × HasTold fs front reported t × Appends old new reported)
+abbrev pub TellsFirst : Scope → Option (List ℕ) → Option (List ℕ) → Option (List ℕ) → Type 0
+TellsFirst scope input old new = IfSome input (λ log. (front left reported : List ℕ) × (t : Teller) × (log ≡ front ++ left) × HasTold scope front reported t × Appends old new reported)
 
 -- a read failed, or the log is too long; or memory was missing
 abbrev pub IsUnreadLog : AnswerFault → Option (List ℕ) → Bool → Type 0
@@ -41,20 +41,20 @@ IsUnnamed fs fault = (fault ≡ Question (BadValue Fs)) × (¬ IsFsName fs)
 
 -- no file system has the name, and nothing was written; or the log can't be read to its end, and what was written tells of its first lines; or a
 -- write failed
-abbrev pub StopsLog : List ℕ → AnswerFault → Option (List ℕ) → Bool → Bool → Option (List ℕ) → Option (List ℕ) → Type 0
-StopsLog fs fault input unread unwritten old new =
-    (IsUnnamed fs fault × Appends old new [])
-    ⊎ ((IsUnreadLog fault input unread × TellsFirst fs input old new) ⊎ ((fault ≡ WriteFailed) × IsTrue unwritten))
+abbrev pub StopsLog : Scope → AnswerFault → Option (List ℕ) → Bool → Bool → Option (List ℕ) → Option (List ℕ) → Type 0
+StopsLog scope fault input unread unwritten old new =
+    (IsUnnamed scope.fs fault × Appends old new [])
+    ⊎ ((IsUnreadLog fault input unread × TellsFirst scope input old new) ⊎ ((fault ≡ WriteFailed) × IsTrue unwritten))
 
 -- ---- piece by piece
 
 -- what is told of the lines that end in a piece was written
-abbrev pub WritesPiece : List ℕ → Teller → List ℕ → Teller → Option (List ℕ) → Option (List ℕ) → Type 0
-WritesPiece fs t piece next old new = (more : List ℕ) × TellsPiece fs t piece more next × Appends old new more
+abbrev pub WritesPiece : Scope → Teller → List ℕ → Teller → Option (List ℕ) → Option (List ℕ) → Type 0
+WritesPiece scope t piece next old new = (more : List ℕ) × TellsPiece scope t piece more next × Appends old new more
 
 -- what is told at the end was written, and this is the status
-abbrev pub WritesEnd : List ℕ → Teller → ℕ → Option (List ℕ) → Option (List ℕ) → Type 0
-WritesEnd fs t status old new = (more : List ℕ) × (judged : Bool) × TellsEnd fs t more judged × Appends old new more × (status ≡ status_of judged)
+abbrev pub WritesEnd : Scope → Teller → ℕ → Option (List ℕ) → Option (List ℕ) → Type 0
+WritesEnd scope t status old new = (more : List ℕ) × (judged : Bool) × TellsEnd scope t more judged × Appends old new more × (status ≡ status_of judged)
 
 -- memory was missing, and nothing was written; or a write failed
 abbrev pub StopsTelling : AnswerFault → Bool → Option (List ℕ) → Option (List ℕ) → Type 0

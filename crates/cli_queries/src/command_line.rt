@@ -61,6 +61,8 @@ pub const JSON: &str = "json";
 
 pub const MDS: &str = "mds";
 
+pub const ONLY_DENIED: &str = "denied";
+
 /// The value of `--grants`, of `--keyring` or of `--auth` that stands for standard input.
 pub const INPUT: &[u8] = b"-";
 
@@ -103,8 +105,13 @@ pub enum Invocation {
     Who(WhoArgs),
     /// What clients of a cluster hold and may not.
     Audit(AuditArgs),
-    /// What the checks of policy in a log are answered, on the file system of this name.
-    Log(Vec<u8>),
+    /// What the checks of policy in a log are answered.
+    Log {
+        /// The file system of a check that names none.
+        fs: Vec<u8>,
+        /// Whether what is allowed is left out.
+        only_denied: bool,
+    },
     /// The transcript of a script.
     Run {
         /// Whether more is to be said of what stops it.
@@ -139,7 +146,10 @@ impl Drop for Invocation {
             } => {}
             Invocation::Who(_) => {}
             Invocation::Audit(_) => {}
-            Invocation::Log(_) => {}
+            Invocation::Log {
+                fs: _,
+                only_denied: _,
+            } => {}
             Invocation::Run { more: _ } => {}
             Invocation::Serve { more: _ } => {}
         }

@@ -5,7 +5,7 @@ ghost use Rattle.cli_queries.specs.Matched.{IsAskedBy};
 use crate::audit_args::{AuditArgs, ClusterFiles};
 use crate::command_line::{
     AUDIT, AUTH, CLIENT, COMPARE, EXPLAIN, GRANTS, INPUT, Invocation, JSON, KEYRING, LINT, LOG,
-    MDS, MORE, NEW, OLD, QUIET, RULE, RUN, SERVE, SESSIONS, TEXT, TREE, WHO,
+    MDS, MORE, NEW, OLD, ONLY_DENIED, QUIET, RULE, RUN, SERVE, SESSIONS, TEXT, TREE, WHO,
 };
 use crate::explain_args::{ExplainArgs, Form, Source};
 use crate::who_args::WhoArgs;
@@ -64,7 +64,10 @@ impl Matched<'_, '_> {
                 shape: self.shape(),
                 mds: self.mds()?,
             }),
-            LOG => Ok(Invocation::Log(self.option(Opt::Fs)?)),
+            LOG => Ok(Invocation::Log {
+                fs: self.option(Opt::Fs)?,
+                only_denied: self.says(ONLY_DENIED),
+            }),
             _ => self.on_script(name),
         }
     }

@@ -2,7 +2,7 @@
 
 use crate::command_line::{
     AUDIT, AUTH, CLIENT, COMPARE, EXPLAIN, GRANTS, JSON, KEYRING, LINT, LOG, MDS, MORE, NEW, OLD,
-    QUIET, RULE, RUN, SERVE, SESSIONS, TEXT, TREE, WHO,
+    ONLY_DENIED, QUIET, RULE, RUN, SERVE, SESSIONS, TEXT, TREE, WHO,
 };
 use queries::Opt;
 
@@ -140,16 +140,6 @@ const FILE_SYSTEM: Word = Word {
     value: "NAME",
     help: "The file system of the inode; left out, it is the one that grants of the list name, and has to be given where they name several",
     kind: Kind::Optional,
-    needs: None,
-    bars: &[],
-};
-
-// The same of a check in a log.
-const CHECKED_FILE_SYSTEM: Word = Word {
-    name: Name::Of(Opt::Fs),
-    value: "NAME",
-    help: "The file system of the inode",
-    kind: Kind::Usual,
     needs: None,
     bars: &[],
 };
@@ -316,6 +306,25 @@ const EXPLAIN_WORDS: [Word; 18] = [
     },
     BY_RELEASE,
     ADDRESS,
+];
+
+const LOG_WORDS: [Word; 2] = [
+    Word {
+        name: Name::Of(Opt::Fs),
+        value: "NAME",
+        help: "The file system of the inode",
+        kind: Kind::Usual,
+        needs: None,
+        bars: &[],
+    },
+    Word {
+        name: Name::Own(ONLY_DENIED),
+        value: "",
+        help: "Leaves out what is allowed, and prints the rest: what is denied, and what can't be judged",
+        kind: Kind::Flag,
+        needs: None,
+        bars: &[],
+    },
 ];
 
 // What stops a script.
@@ -536,7 +545,7 @@ pub(crate) const COMMANDS: [Usage; 9] = [
         name: LOG,
         about: "Reads the log of an MDS from standard input and says what the grants in each check of policy allow, or why not",
         example: LOG_EXAMPLE,
-        words: &[CHECKED_FILE_SYSTEM],
+        words: &LOG_WORDS,
     },
     Usage {
         name: RUN,

@@ -1,9 +1,10 @@
 -- What is told of a log is one thing after the other, and its text tells which.
 use Rattle.std.proofs.Common.{◌≡◌, ◌⊎◌, inl, inr, ℕ, ◌+◌, ◌<◌, ◌≤◌, ◌^◌, ◌%◌, Bool, true, false, Option, Some, None, List, [], ◌∷◌, ◌++◌, drop, length, refl}
 use Rattle.std.proofs.Common.{sym, ap, ◌∙◌, append_assoc, arith}
-use Rattle.std.specs.Prelude.{codes, All, IfSome, bytes_eq, is_some, ◌==◌, if◌then◌else◌}
+use Rattle.std.specs.Prelude.{codes, All, IfSome, bytes_eq, is_some, ◌==◌, ◌&&◌, if◌then◌else◌}
 use Rattle.std.specs.Fmt.{decimal}
 use Rattle.std.specs.List.{AllZip, flat_map, list_all}
+use Rattle.std.proofs.lemmas.Bool.{cond_both}
 use Rattle.std.proofs.lemmas.Fmt.{decimal_by_steps}
 use Rattle.std.proofs.lemmas.List.{append-nil, append_cancel_left}
 use Rattle.std.proofs.lemmas.List.Concat.{flat_map-append}
@@ -19,6 +20,7 @@ use Rattle.texts.specs.Lines.{HasNumber}
 use Rattle.texts.specs.Quoting.{is_plain, quoted}
 use Rattle.texts.specs.Mds.{beside_text}
 use Rattle.texts.specs.Standing.{fault_word}
+use Rattle.texts.specs.Remarked.{HasNumbers}
 use Rattle.texts.proofs.Answered.{number_and, number_to, plain_number}
 use Rattle.texts.proofs.Beside.{one_beside_to}
 use Rattle.texts.proofs.Clients.{has_word, kind_of}
@@ -42,8 +44,8 @@ use Rattle.queries.specs.AnyPath.{any_path_of, any_path_text}
 use Rattle.queries.specs.Items.{HasLines, IsTellable, Reported, SameOfLine, SameReported, lines_of, reported_in, reported_lines}
 use Rattle.queries.specs.Items.Reported.{answered, bad, formless, pathless, refused, unknown}
 use Rattle.queries.specs.Masks.{accesses_of}
-use Rattle.queries.specs.Reported.{AreReported, AreValues, IsAnswered, IsFaulty, IsReportOf, IsReported, Says, SaysBehind, SaysFault, SaysIf, State}
-use Rattle.queries.specs.Reported.{answer_lines, passed_line, path_or_root, pathless_line, said_line, with_access}
+use Rattle.queries.specs.Reported.{AreReported, AreValues, IsAnswered, IsFaulty, IsReportOf, IsReported, Says, SaysBehind, SaysFault, SaysIf, Scope, State}
+use Rattle.queries.specs.Reported.{answer_lines, passed_line, is_allowed_there, path_or_root, pathless_line, told_line, with_access}
 use Rattle.queries.specs.Reported.AreReported.{no_more, one_more}
 use Rattle.queries.specs.Reported.IsReported.{checked, kept, passed_over}
 use Rattle.queries.proofs.LogLines.{few_passed, next_number}
@@ -208,6 +210,10 @@ one_log (x ∷ xs) (y ∷ ys) m n p o small also same =
 abbrev AreLines : List ℕ → Type 0
 AreLines text = (xs : List (ℕ × Reported)) × All HasLines xs × (text ≡ flat_map reported_lines xs)
 
+both : (first more : List ℕ) → AreLines first → AreLines more → AreLines (first ++ more)
+both first more here there =
+    (here.0 ++ there.0, All-append HasLines here.0 there.0 here.1 there.1, ap (λ (r : List ℕ). r ++ more) here.2 ∙ ap (λ (r : List ℕ). flat_map reported_lines here.0 ++ r) there.2 ∙ sym (flat_map-append reported_lines here.0 there.0))
+
 module _ (number : ℕ) (small : number < 2 ^ 64) where
   none : (text : List ℕ) → text ≡ [] → AreLines text
   none text is = ([], All-nil HasLines, is)
@@ -215,44 +221,43 @@ module _ (number : ℕ) (small : number < 2 ^ 64) where
   one : (reported : Reported) (text : List ℕ) → IsTellable reported → text ≡ lines_of number reported → AreLines text
   one reported text fits is = ((number, reported) ∷ [], All-cons HasLines (number, reported) [] (small, fits) (All-nil HasLines), is ∙ sym (append-nil (lines_of number reported)))
 
-  of_accesses : (v : Values) (grants : List ℕ) (q : Question) (has_path : Bool) → length grants < 2 ^ 63 → AsksFor v q → (accesses : List Access) → All HasNumber accesses
-      → AreLines (flat_map (said_line has_path number grants q) accesses)
-  of_accesses v grants q has_path short asks [] numbers = none [] refl
-  of_accesses v grants q true short asks (access ∷ accesses) numbers =
-      let reported : Reported = answered grants (with_access q access) in
-      let more = of_accesses v grants q true short asks accesses (All-tail HasNumber access accesses numbers) in (
-        (number, reported) ∷ more.0,
-        All-cons HasLines (number, reported) more.0 (small, (fits v q access asks (All-head HasNumber access accesses numbers), short)) more.1,
-        ap (λ (r : List ℕ). answer_lines number grants q access ++ r) more.2,
-      )
-  of_accesses v grants q false short asks (access ∷ accesses) numbers =
-      let reported : Reported = pathless (with_access q access) in
-      let more = of_accesses v grants q false short asks accesses (All-tail HasNumber access accesses numbers) in (
-        (number, reported) ∷ more.0,
-        All-cons HasLines (number, reported) more.0 (small, fits v q access asks (All-head HasNumber access accesses numbers)) more.1,
-        ap (λ (r : List ℕ). pathless_line number q access ++ r) more.2,
-      )
+  of_access : (only_denied : Bool) (grants : List ℕ) (q : Question) (has_path : Bool) (access : Access) → length grants < 2 ^ 63 → HasNumbers (asked_of (with_access q access)) q.grants
+      → AreLines (told_line only_denied has_path number grants q access)
+  of_access only_denied grants q true access short fit =
+      cond_both (only_denied && is_allowed_there true (with_access q access)) [] (answer_lines number grants q access) AreLines (λ left. none [] refl)
+      (λ told. one (answered grants (with_access q access)) (answer_lines number grants q access) (fit, short) refl)
+  of_access only_denied grants q false access short fit =
+      cond_both (only_denied && is_allowed_there false (with_access q access)) [] (pathless_line number q access) AreLines (λ left. none [] refl)
+      (λ told. one (pathless (with_access q access)) (pathless_line number q access) fit refl)
+
+  of_accesses : (v : Values) (only_denied : Bool) (grants : List ℕ) (q : Question) (has_path : Bool) → length grants < 2 ^ 63 → AsksFor v q → (accesses : List Access) → All HasNumber accesses
+      → AreLines (flat_map (told_line only_denied has_path number grants q) accesses)
+  of_accesses v only_denied grants q has_path short asks [] numbers = none [] refl
+  of_accesses v only_denied grants q has_path short asks (access ∷ accesses) numbers =
+      both (told_line only_denied has_path number grants q access) (flat_map (told_line only_denied has_path number grants q) accesses)
+      (of_access only_denied grants q has_path access short (fits v q access asks (All-head HasNumber access accesses numbers)))
+      (of_accesses v only_denied grants q has_path short asks accesses (All-tail HasNumber access accesses numbers))
 
   of_fault : (check : CheckTexts) (v : Values) (fault : QuestionFault) (text : List ℕ) → v.grants.items ≡ check.grants → length check.grants < 2 ^ 63 → IsFaultIn v fault → SaysFault number fault text → AreLines text
   of_fault check v (BadGrants fault) text same short first says = one (refused fault) text (omega (arith, near_fault v.grants.items fault first, ap (λ (bytes : List ℕ). length bytes) same, short)) says
   of_fault check v (BadValue option) text same short first says = one (bad option) text tt says
   of_fault check v NoMemory text same short first says = absurd says
 
-  of_values : (given : GivenTexts) (path : List ℕ) (check : CheckTexts) (v : Values) (text : List ℕ) (has_path judged : Bool) → length check.grants < 2 ^ 63 → AreValues given path check v
-      → IsAnswered number has_path check v text judged ⊎ (IsFaulty number v text × (judged ≡ false)) → AreLines text
-  of_values given path check v text has_path judged short values (inl says) =
-      let reported = of_accesses v check.grants says.question has_path short says.asks (accesses_of says.mask) (all_asked check says.mask says.is_mask) in
+  of_values : (only_denied : Bool) (given : GivenTexts) (path : List ℕ) (check : CheckTexts) (v : Values) (text : List ℕ) (has_path judged : Bool) → length check.grants < 2 ^ 63 → AreValues given path check v
+      → IsAnswered number only_denied has_path check v text judged ⊎ (IsFaulty number v text × (judged ≡ false)) → AreLines text
+  of_values only_denied given path check v text has_path judged short values (inl says) =
+      let reported = of_accesses v only_denied check.grants says.question has_path short says.asks (accesses_of says.mask) (all_asked check says.mask says.is_mask) in
       (reported.0, reported.1, says.more_is ∙ reported.2)
-  of_values given path check v text has_path judged short values (inr says) = of_fault check v says.0.fault text values.grants short says.0.first says.0.says
+  of_values only_denied given path check v text has_path judged short values (inr says) = of_fault check v says.0.fault text values.grants short says.0.first says.0.says
 
-  of_check : (given : GivenTexts) (check : CheckTexts) (text : List ℕ) (judged : Bool) → length check.grants < 2 ^ 63 → Says number given check text judged → AreLines text
-  of_check given check text judged short (inl says) = one (unknown check.mask) text tt says.1
-  of_check given check text judged short (inr says) = of_values given (path_or_root given.path) check says.0 text (is_some given.path) judged short says.1 says.2
+  of_check : (only_denied : Bool) (given : GivenTexts) (check : CheckTexts) (text : List ℕ) (judged : Bool) → length check.grants < 2 ^ 63 → Says number only_denied given check text judged → AreLines text
+  of_check only_denied given check text judged short (inl says) = one (unknown check.mask) text tt says.1
+  of_check only_denied given check text judged short (inr says) = of_values only_denied given (path_or_root given.path) check says.0 text (is_some given.path) judged short says.1 says.2
 
-  of_form : (fs : List ℕ) (name : Option (List ℕ)) (before : Option BeforeTexts) (check : Option CheckTexts) (text : List ℕ) (judged : Bool) → IfSome check (λ c. length c.grants < 2 ^ 63)
-      → SaysIf number fs name before check text judged → AreLines text
-  of_form fs name before None text judged short says = one formless text tt says.0
-  of_form fs name before (Some check) text judged short says = of_check (given_of fs name (known_of check before) check) check text judged short says
+  of_form : (scope : Scope) (name : Option (List ℕ)) (before : Option BeforeTexts) (check : Option CheckTexts) (text : List ℕ) (judged : Bool) → IfSome check (λ c. length c.grants < 2 ^ 63)
+      → SaysIf number scope name before check text judged → AreLines text
+  of_form scope name before None text judged short says = one formless text tt says.0
+  of_form scope name before (Some check) text judged short says = of_check scope.only_denied (given_of scope.fs name (known_of check before) check) check text judged short says
 
 -- the grants of a check in a line of a short log
 short_check_of : (most : ℕ) (text : List ℕ) → length text ≤ most → most < 2 ^ 63 → IfSome (check_of text) (λ c. length c.grants < 2 ^ 63)
@@ -262,31 +267,29 @@ short_check_of most text inside short = by_check (check_of text) (short_grants t
     by_check None fit = tt
     by_check (Some check) fit = omega (arith, fit, inside, short)
 
-of_head : (number : ℕ) (fs : List ℕ) (before : Option BeforeTexts) (most : ℕ) (head : Option HeadTexts) (text : List ℕ) (judged : Bool) → number < 2 ^ 64 → most < 2 ^ 63 → HasFew most head
-    → SaysBehind number fs before head text judged → AreLines text
-of_head number fs before most None text judged small short few says = one number small formless text tt says.0
-of_head number fs before most (Some (name, parts)) text judged small short few says = of_form number small fs name before (check_of parts) text judged (short_check_of most parts few short) says
+of_head : (number : ℕ) (scope : Scope) (before : Option BeforeTexts) (most : ℕ) (head : Option HeadTexts) (text : List ℕ) (judged : Bool) → number < 2 ^ 64 → most < 2 ^ 63 → HasFew most head
+    → SaysBehind number scope before head text judged → AreLines text
+of_head number scope before most None text judged small short few says = one number small formless text tt says.0
+of_head number scope before most (Some (name, parts)) text judged small short few says = of_form number small scope name before (check_of parts) text judged (short_check_of most parts few short) says
 
-of_line : {fs line text : List ℕ} {s next : State} (most : ℕ) → s.number < 2 ^ 64 → most < 2 ^ 63 → length line ≤ most → IsReported fs s line text next → AreLines text
+of_line : {scope : Scope} {line text : List ℕ} {s next : State} (most : ℕ) → s.number < 2 ^ 64 → most < 2 ^ 63 → length line ≤ most → IsReported scope s line text next → AreLines text
 of_line {s} most small short few (kept before) = none s.number small [] refl
 of_line {s} most small short few (passed_over other without) = none s.number small [] refl
-of_line {fs} {line} {text} {s} most small short few (checked parts more judged other is says) =
-    of_head s.number fs (said_before s.before) most (head_in parts) more judged small short (short_head most parts (short_check most line parts few is)) says
+of_line {scope} {line} {text} {s} most small short few (checked parts more judged other is says) =
+    of_head s.number scope (said_before s.before) most (head_in parts) more judged small short (short_head most parts (short_check most line parts few is)) says
 
-of_lines : {fs text : List ℕ} {s end : State} (most : ℕ) (log : List (List ℕ)) → s.number + length log < 2 ^ 64 → most < 2 ^ 63 → AreShort most log → AreReported fs s log text end → AreLines text
+of_lines : {scope : Scope} {text : List ℕ} {s end : State} (most : ℕ) (log : List (List ℕ)) → s.number + length log < 2 ^ 64 → most < 2 ^ 63 → AreShort most log → AreReported scope s log text end → AreLines text
 of_lines most [] small short few no_more = ([], All-nil HasLines, refl)
 of_lines most (line ∷ log) small short few (one_more first more says others) =
-    let here = of_line most (omega (arith, small)) short few.0 says in
-    let there = of_lines most log (omega (arith, small, next_number says)) short few.1 others in
-    (here.0 ++ there.0, All-append HasLines here.0 there.0 here.1 there.1, ap (λ (r : List ℕ). r ++ more) here.2 ∙ ap (λ (r : List ℕ). flat_map reported_lines here.0 ++ r) there.2 ∙ sym (flat_map-append reported_lines here.0 there.0))
+    both first more (of_line most (omega (arith, small)) short few.0 says) (of_lines most log (omega (arith, small, next_number says)) short few.1 others)
 
-few_at_end : {fs text : List ℕ} {s end : State} (log : List (List ℕ)) → AreReported fs s log text end → end.passed ≤ s.passed + length log
+few_at_end : {scope : Scope} {text : List ℕ} {s end : State} (log : List (List ℕ)) → AreReported scope s log text end → end.passed ≤ s.passed + length log
 few_at_end [] no_more = omega arith
 few_at_end (line ∷ log) (one_more first more says others) = omega (arith, few_at_end log others, few_passed says)
 
-pub each_has_its_lines : (fs log reported : List ℕ) (judged : Bool) → length log < 2 ^ 62 → IsReportOf fs log reported judged
+pub each_has_its_lines : (scope : Scope) (log reported : List ℕ) (judged : Bool) → length log < 2 ^ 62 → IsReportOf scope log reported judged
     → (xs : List (ℕ × Reported)) × (passed : ℕ) × All HasLines xs × (passed < 2 ^ 64) × (reported ≡ reported_in xs passed)
-each_has_its_lines fs log reported judged short says =
+each_has_its_lines scope log reported judged short says =
     let end : State = says.1 in
     let front = of_lines (length log) (lines log) (omega (arith, short, few_lines log)) (omega (arith, short)) (short_lines log) says.2 in
     (front.0, end.passed, front.1, omega (arith, short, few_lines log, few_at_end (lines log) says.2), says.3 ∙ ap (λ (r : List ℕ). r ++ passed_line end.passed) front.2)

@@ -15,6 +15,7 @@ pub mod LogLines
 pub mod LogPieces
 pub mod Fitting
 pub mod AnyPaths
+pub mod Told
 pub mod FewThere
 pub mod Items
 pub mod WrittenChecks

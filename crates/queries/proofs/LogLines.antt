@@ -2,27 +2,27 @@
 use Rattle.std.proofs.Common.{◌≡◌, ℕ, ◌+◌, ◌≤◌, ◌<◌, List, [], ◌∷◌, ◌++◌, length, refl, sym, ap, subst, ◌∙◌, append_assoc, arith}
 use Rattle.std.proofs.lemmas.List.{append-nil}
 use Rattle.texts.specs.ScriptLines.{lines}
-use Rattle.queries.specs.Reported.{AreReported, IsReported, State}
+use Rattle.queries.specs.Reported.{AreReported, IsReported, Scope, State}
 use Rattle.queries.specs.Reported.AreReported.{no_more, one_more}
 use Rattle.queries.specs.Reported.IsReported.{checked, kept, passed_over}
 use Rattle.queries.proofs.Fitting.{few_more}
 
 -- ---- lines one after the other
 
-pub one_after_the_other : (fs : List ℕ) (s mid end : State) (xs ys : List (List ℕ)) (a b : List ℕ) → AreReported fs s xs a mid → AreReported fs mid ys b end → AreReported fs s (xs ++ ys) (a ++ b) end
-one_after_the_other fs s mid end [] ys a b no_more then = then
-one_after_the_other fs s mid end (x ∷ xs) ys a b (one_more first more says others) then =
-    subst (λ (t : List ℕ). AreReported fs s (x ∷ (xs ++ ys)) t end) (sym (append_assoc first more b)) (one_more first (more ++ b) says (one_after_the_other fs _ mid end xs ys more b others then))
+pub one_after_the_other : (scope : Scope) (s mid end : State) (xs ys : List (List ℕ)) (a b : List ℕ) → AreReported scope s xs a mid → AreReported scope mid ys b end → AreReported scope s (xs ++ ys) (a ++ b) end
+one_after_the_other scope s mid end [] ys a b no_more then = then
+one_after_the_other scope s mid end (x ∷ xs) ys a b (one_more first more says others) then =
+    subst (λ (t : List ℕ). AreReported scope s (x ∷ (xs ++ ys)) t end) (sym (append_assoc first more b)) (one_more first (more ++ b) says (one_after_the_other scope _ mid end xs ys more b others then))
 
-pub alone : (fs line text : List ℕ) (s next : State) → IsReported fs s line text next → AreReported fs s (line ∷ []) text next
-alone fs line text s next says = subst (λ (t : List ℕ). AreReported fs s (line ∷ []) t next) (append-nil text) (one_more text [] says no_more)
+pub alone : (scope : Scope) (line text : List ℕ) (s next : State) → IsReported scope s line text next → AreReported scope s (line ∷ []) text next
+alone scope line text s next says = subst (λ (t : List ℕ). AreReported scope s (line ∷ []) t next) (append-nil text) (one_more text [] says no_more)
 
-pub next_number : {fs line text : List ℕ} {s next : State} → IsReported fs s line text next → next.number ≡ s.number + 1
+pub next_number : {scope : Scope} {line text : List ℕ} {s next : State} → IsReported scope s line text next → next.number ≡ s.number + 1
 next_number (kept before) = refl
 next_number (passed_over other none) = refl
 next_number (checked parts more judged other is says) = refl
 
-pub few_passed : {fs line text : List ℕ} {s next : State} → IsReported fs s line text next → next.passed ≤ s.passed + 1
+pub few_passed : {scope : Scope} {line text : List ℕ} {s next : State} → IsReported scope s line text next → next.passed ≤ s.passed + 1
 few_passed {line} (kept before) = omega (arith, few_more (length line))
 few_passed {line} (passed_over other none) = omega (arith, few_more (length line))
 few_passed (checked parts more judged other is says) = omega arith
@@ -30,29 +30,29 @@ few_passed (checked parts more judged other is says) = omega arith
 -- ---- the lines of a text
 
 -- what is known when so many lines of the text were told, behind what was told before them
-pub record SoFar (fs text rest front reported : List ℕ) (old s : State) : Type 0 where
+pub record SoFar (scope : Scope) (text rest front reported : List ℕ) (old s : State) : Type 0 where
   pub ended : List (List ℕ)
   pub more : List ℕ
   pub parted : lines text ≡ ended ++ lines rest
-  pub reported_are : AreReported fs old ended more s
+  pub reported_are : AreReported scope old ended more s
   pub told_is : reported ≡ front ++ more
   pub left : s.number + length rest ≤ old.number + length text
   pub few : s.passed < s.number
 
 -- what is told of one line
-abbrev pub Tells : List ℕ → State → List ℕ → List ℕ → List ℕ → State → Type 0
-Tells fs s line reported after next = (more : List ℕ) × (after ≡ reported ++ more) × IsReported fs s line more next
+abbrev pub Tells : Scope → State → List ℕ → List ℕ → List ℕ → State → Type 0
+Tells scope s line reported after next = (more : List ℕ) × (after ≡ reported ++ more) × IsReported scope s line more next
 
-pub begun : (fs text reported : List ℕ) (s : State) → s.passed < s.number → SoFar fs text text reported reported s s
-begun fs text reported s few = record { ended = []; more = []; parted = refl; reported_are = no_more; told_is = sym (append-nil reported); left = omega arith; few = few }
+pub begun : (scope : Scope) (text reported : List ℕ) (s : State) → s.passed < s.number → SoFar scope text text reported reported s s
+begun scope text reported s few = record { ended = []; more = []; parted = refl; reported_are = no_more; told_is = sym (append-nil reported); left = omega arith; few = few }
 
-pub line_more : (fs text rest front reported line behind after : List ℕ) (old s next : State) → SoFar fs text rest front reported old s → lines rest ≡ line ∷ lines behind → length behind < length rest
-    → Tells fs s line reported after next → SoFar fs text behind front after old next
-line_more fs text rest front reported line behind after old s next so is shorter says = record {
+pub line_more : (scope : Scope) (text rest front reported line behind after : List ℕ) (old s next : State) → SoFar scope text rest front reported old s → lines rest ≡ line ∷ lines behind → length behind < length rest
+    → Tells scope s line reported after next → SoFar scope text behind front after old next
+line_more scope text rest front reported line behind after old s next so is shorter says = record {
   ended = so.ended ++ line ∷ [];
   more = so.more ++ says.0;
   parted = so.parted ∙ ap (λ (ls : List (List ℕ)). so.ended ++ ls) is ∙ sym (append_assoc so.ended (line ∷ []) (lines behind));
-  reported_are = one_after_the_other fs old s next so.ended (line ∷ []) so.more says.0 so.reported_are (alone fs line says.0 s next says.2);
+  reported_are = one_after_the_other scope old s next so.ended (line ∷ []) so.more says.0 so.reported_are (alone scope line says.0 s next says.2);
   told_is = says.1 ∙ ap (λ (t : List ℕ). t ++ says.0) so.told_is ∙ append_assoc front so.more says.0;
   left = omega (arith, so.left, shorter, next_number says.2);
   few = omega (arith, so.few, next_number says.2, few_passed says.2);

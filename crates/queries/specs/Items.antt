@@ -13,7 +13,7 @@ use Rattle.queries.specs.Options.{option_name}
 use Rattle.queries.specs.Question.{verdict_on}
 use Rattle.queries.specs.Remarks.{asked_of, others_on}
 use Rattle.queries.specs.AnyPath.{any_path_of}
-use Rattle.queries.specs.Reported.{IsReportOf, answer_lines, formless_line, passed_line, pathless_line, unknown_line}
+use Rattle.queries.specs.Reported.{IsReportOf, Scope, answer_lines, formless_line, passed_line, pathless_line, unknown_line}
 
 -- the answer to a question of a check at its path, by the text of its grants; or where no path is known; that it has another form; an unknown
 -- mask; what is wrong with its grants, or with another part
@@ -80,5 +80,5 @@ OneLog = (xs ys : List (ℕ × Reported)) (m n : ℕ) → All HasLines xs → Al
 
 -- what is told of a log that is not too long is such things
 abbrev pub EachHasItsLines : Type 0
-EachHasItsLines = (fs log reported : List ℕ) (judged : Bool) → length log < 2 ^ 62 → IsReportOf fs log reported judged
+EachHasItsLines = (scope : Scope) (log reported : List ℕ) (judged : Bool) → length log < 2 ^ 62 → IsReportOf scope log reported judged
     → (xs : List (ℕ × Reported)) × (passed : ℕ) × All HasLines xs × (passed < 2 ^ 64) × (reported ≡ reported_in xs passed)

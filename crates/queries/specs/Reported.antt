@@ -4,16 +4,18 @@ use Rattle.std.specs.Prelude.{codes, if◌then◌else◌}
 use Rattle.std.specs.Fmt.{decimal}
 use Rattle.std.specs.List.{flat_map, list_all}
 use Rattle.capgrant.specs.declared.access.Access.{Access}
+use Rattle.capgrant.specs.Verdict.{is_allowed}
 use Rattle.queries.specs.declared.fault.QuestionFault.{QuestionFault}
 use Rattle.queries.specs.declared.fault.QuestionFault.TheVariants.{BadValue, Grants, NoMemory}
 use Rattle.queries.specs.declared.question.Question.{Question}
 use Rattle.queries.specs.declared.question.Values.{Values}
 use Rattle.queries.specs.Options.{option_name}
-use Rattle.queries.specs.Question.{AsksFor, IsFaultIn}
+use Rattle.queries.specs.Question.{AsksFor, IsFaultIn, verdict_on}
 use Rattle.queries.specs.Remarks.{remarked_answer}
 use Rattle.texts.specs.Quoting.{quoted}
 use Rattle.texts.specs.Standing.{unread_line}
 use Rattle.texts.specs.ScriptLines.{lines}
+use Rattle.queries.specs.declared.log_scope.LogScope.{LogScope}
 use Rattle.queries.specs.declared.log_text.LogState.{LogState}
 use Rattle.queries.specs.declared.mask.Mask.{Mask}
 use Rattle.queries.specs.Checks.{CheckTexts, HeadTexts, check_in, check_of, head_in}
@@ -22,6 +24,18 @@ use Rattle.queries.specs.AnyPath.{any_path_of, any_path_text}
 use Rattle.queries.specs.declared.any_path.AnyPath.{AnyPath}
 use Rattle.queries.specs.declared.any_path.AnyPath.TheVariants.{Anywhere, Nowhere, Somewhere}
 use Rattle.queries.specs.Masks.{IsMaskOf, accesses_of}
+
+-- what is to be told of a log: on the file system of this name, where a check has none; of all, or of what is denied alone
+pub record Scope : Type 0 where
+  pub fs : List ℕ
+  pub only_denied : Bool
+
+abbrev pub scope : List ℕ → Bool → Scope
+scope fs only_denied = record { fs = fs; only_denied = only_denied }
+
+-- the same of what the code has
+abbrev pub scope_of : LogScope → Scope
+scope_of s = scope s.fs.now s.only_denied
 
 -- the values of a question by the parts of a check, and by what is given beside it: to read, at this path
 pub record AreValues (given : GivenTexts) (at : List ℕ) (check : CheckTexts) (v : Values) : Type 0 where
@@ -63,6 +77,21 @@ is_sure Nowhere = true
 abbrev pub said_line : Bool → ℕ → List ℕ → Question → Access → List ℕ
 said_line has_path number grants q access = if has_path then answer_lines number grants q access else pathless_line number q access
 
+-- it is allowed at each path
+abbrev pub is_anywhere : AnyPath → Bool
+is_anywhere (Anywhere grant) = true
+is_anywhere (Somewhere grant) = false
+is_anywhere Nowhere = false
+
+-- what is asked is allowed, where its path is known, or at each
+abbrev pub is_allowed_there : Bool → Question → Bool
+is_allowed_there has_path q = if has_path then is_allowed (verdict_on q) else is_anywhere (any_path_of q)
+
+-- what is told of that: all, or of what is denied alone
+abbrev pub told_line : Bool → Bool → ℕ → List ℕ → Question → Access → List ℕ
+told_line only_denied has_path number grants q access =
+    if only_denied && is_allowed_there has_path (with_access q access) then [] else said_line has_path number grants q access
+
 -- whether that is an answer
 abbrev pub is_answer : Bool → Question → Access → Bool
 is_answer has_path q access = has_path || is_sure (any_path_of (with_access q access))
@@ -78,12 +107,12 @@ SaysFault number (BadValue option) line = line ≡ decimal number ++ (codes ": b
 SaysFault number NoMemory line = ⊥
 
 -- the answers for all that the mask asks for, and whether each is one
-pub record IsAnswered (number : ℕ) (has_path : Bool) (check : CheckTexts) (v : Values) (more : List ℕ) (judged : Bool) : Type 0 where
+pub record IsAnswered (number : ℕ) (only_denied has_path : Bool) (check : CheckTexts) (v : Values) (more : List ℕ) (judged : Bool) : Type 0 where
   pub mask : Mask
   pub question : Question
   pub is_mask : IsMaskOf check mask
   pub asks : AsksFor v question
-  pub more_is : more ≡ flat_map (said_line has_path number check.grants question) (accesses_of mask)
+  pub more_is : more ≡ flat_map (told_line only_denied has_path number check.grants question) (accesses_of mask)
   pub judged_is : judged ≡ list_all (is_answer has_path question) (accesses_of mask)
 
 -- or the first fault of its values
@@ -97,21 +126,21 @@ abbrev pub path_or_root : Option (List ℕ) → List ℕ
 path_or_root None = codes "/"
 path_or_root (Some path) = path
 
--- what is told of a check, with what is given beside it, and whether that is an answer
-abbrev pub Says : ℕ → GivenTexts → CheckTexts → List ℕ → Bool → Type 0
-Says number given check more judged =
+-- what is told of a check, of all or of what is denied alone, with what is given beside it, and whether that is an answer
+abbrev pub Says : ℕ → Bool → GivenTexts → CheckTexts → List ℕ → Bool → Type 0
+Says number only_denied given check more judged =
     (((mask : Mask) → ¬ IsMaskOf check mask) × (more ≡ unknown_line number check.mask) × (judged ≡ false))
-    ⊎ ((v : Values) × AreValues given (path_or_root given.path) check v × (IsAnswered number (is_some given.path) check v more judged ⊎ (IsFaulty number v more × (judged ≡ false))))
+    ⊎ ((v : Values) × AreValues given (path_or_root given.path) check v × (IsAnswered number only_denied (is_some given.path) check v more judged ⊎ (IsFaulty number v more × (judged ≡ false))))
 
 -- the same of a text that should be one, with a file system where it names none, and what the line before it says
-abbrev pub SaysIf : ℕ → List ℕ → Option (List ℕ) → Option BeforeTexts → Option CheckTexts → List ℕ → Bool → Type 0
-SaysIf number fs name before None more judged = (more ≡ formless_line number) × (judged ≡ false)
-SaysIf number fs name before (Some check) more judged = Says number (given_of fs name (known_of check before) check) check more judged
+abbrev pub SaysIf : ℕ → Scope → Option (List ℕ) → Option BeforeTexts → Option CheckTexts → List ℕ → Bool → Type 0
+SaysIf number scope name before None more judged = (more ≡ formless_line number) × (judged ≡ false)
+SaysIf number scope name before (Some check) more judged = Says number scope.only_denied (given_of scope.fs name (known_of check before) check) check more judged
 
 -- by the head of a check
-abbrev pub SaysBehind : ℕ → List ℕ → Option BeforeTexts → Option HeadTexts → List ℕ → Bool → Type 0
-SaysBehind number fs before None more judged = (more ≡ formless_line number) × (judged ≡ false)
-SaysBehind number fs before (Some (name, parts)) more judged = SaysIf number fs name before (check_of parts) more judged
+abbrev pub SaysBehind : ℕ → Scope → Option BeforeTexts → Option HeadTexts → List ℕ → Bool → Type 0
+SaysBehind number scope before None more judged = (more ≡ formless_line number) × (judged ≡ false)
+SaysBehind number scope before (Some (name, parts)) more judged = SaysIf number scope name before (check_of parts) more judged
 
 -- ---- line by line
 
@@ -144,20 +173,20 @@ behind_check s judged = record s { number = s.number + 1; judged = s.judged && j
 
 -- What is told of a line, and where the telling is then: nothing of one that says something of the next check, nor of another that is no check;
 -- of a check what is said, by what the line before it says.
-pub data IsReported (fs : List ℕ) (s : State) (line : List ℕ) : List ℕ → State → Type 0 where
-  kept : is_some (before_in line) ≡ true → IsReported fs s line [] (keeping (behind_other s line) line)
-  passed_over : is_some (before_in line) ≡ false → check_in line ≡ None → IsReported fs s line [] (behind_other s line)
+pub data IsReported (scope : Scope) (s : State) (line : List ℕ) : List ℕ → State → Type 0 where
+  kept : is_some (before_in line) ≡ true → IsReported scope s line [] (keeping (behind_other s line) line)
+  passed_over : is_some (before_in line) ≡ false → check_in line ≡ None → IsReported scope s line [] (behind_other s line)
   checked : (parts : List ℕ × List ℕ) (more : List ℕ) (judged : Bool) → is_some (before_in line) ≡ false → check_in line ≡ Some parts
-      → SaysBehind s.number fs (said_before s.before) (head_in parts) more judged → IsReported fs s line more (behind_check s judged)
+      → SaysBehind s.number scope (said_before s.before) (head_in parts) more judged → IsReported scope s line more (behind_check s judged)
 
 -- of these lines, one after the other
-pub data AreReported (fs : List ℕ) : State → List (List ℕ) → List ℕ → State → Type 0 where
-  no_more : {s : State} → AreReported fs s [] [] s
-  one_more : {s next end : State} {line : List ℕ} {lines : List (List ℕ)} (first more : List ℕ) → IsReported fs s line first next → AreReported fs next lines more end → AreReported fs s (line ∷ lines) (first ++ more) end
+pub data AreReported (scope : Scope) : State → List (List ℕ) → List ℕ → State → Type 0 where
+  no_more : {s : State} → AreReported scope s [] [] s
+  one_more : {s next end : State} {line : List ℕ} {lines : List (List ℕ)} (first more : List ℕ) → IsReported scope s line first next → AreReported scope next lines more end → AreReported scope s (line ∷ lines) (first ++ more) end
 
 abbrev pub passed_line : ℕ → List ℕ
 passed_line passed = codes "lines that are no check of policy: " ++ (decimal passed ++ codes "\n")
 
 -- what is told of each line of a log, and how many are passed over; and whether each check of it is judged
-abbrev pub IsReportOf : List ℕ → List ℕ → List ℕ → Bool → Type 0
-IsReportOf fs log reported judged = (front : List ℕ) × (end : State) × AreReported fs start (lines log) front end × (reported ≡ front ++ passed_line end.passed) × (judged ≡ end.judged)
+abbrev pub IsReportOf : Scope → List ℕ → List ℕ → Bool → Type 0
+IsReportOf scope log reported judged = (front : List ℕ) × (end : State) × AreReported scope start (lines log) front end × (reported ≡ front ++ passed_line end.passed) × (judged ≡ end.judged)

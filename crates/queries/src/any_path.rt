@@ -20,7 +20,7 @@ pub enum AnyPath {
 }
 
 impl AnyPath {
-    ghost use Rattle.queries.specs.Reported.{is_sure};
+    ghost use Rattle.queries.specs.Reported.{is_anywhere, is_sure};
 
     /// Whether it is the same at each path.
     pub fn is_sure(self) -> bool
@@ -30,6 +30,13 @@ impl AnyPath {
             AnyPath::Anywhere(_) | AnyPath::Nowhere => true,
             AnyPath::Somewhere(_) => false,
         }
+    }
+
+    /// Whether it is allowed at each path.
+    pub fn is_anywhere(self) -> bool
+        ensures { result ≡ is_anywhere self }
+    {
+        matches!(self, AnyPath::Anywhere(_))
     }
 }
 

@@ -1,16 +1,17 @@
 //! The lines that tell of a log.
-ghost use Rattle.std.specs.Prelude.{◌≡◌, ◌++◌, ◌+◌, ◌<◌, ◌^◌, false, ℕ, List, length, option_map, IfOk, OnOk};
+ghost use Rattle.std.specs.Prelude.{◌≡◌, ◌++◌, ◌+◌, ◌<◌, ◌^◌, false, true, ℕ, List, length, option_map, IfOk, OnOk};
 ghost use Rattle.std.specs.List.{flat_map, list_all};
 ghost use Rattle.queries.specs.Before.{before_texts_of, given_texts_of};
 ghost use Rattle.queries.specs.Checks.{head_in, texts_of};
 ghost use Rattle.queries.specs.LogPieces.{TellsLines};
-ghost use Rattle.queries.specs.Reported.{IsReported, Says, SaysBehind, SaysFault, answer_lines, formless_line, is_answer, passed_line, pathless_line};
-ghost use Rattle.queries.specs.Reported.{said_line, state_of, unknown_line};
+ghost use Rattle.queries.specs.Reported.{IsReported, Says, SaysBehind, SaysFault, answer_lines, formless_line, is_answer, passed_line, scope_of};
+ghost use Rattle.queries.specs.Reported.{state_of, told_line, unknown_line};
 
 use crate::any_path::print_any_path;
 use crate::before::{Before, Given, given_for, is_before, said_before};
 use crate::check::{Check, check_in, read_check, read_head};
 use crate::fault::QuestionFault;
+use crate::log_scope::LogScope;
 use crate::mask::{accesses, read_mask};
 use crate::question::Question;
 use crate::values::{fill, no_values};
@@ -65,7 +66,7 @@ impl Drop for LogTeller {
 impl LogTeller {
     ghost use Rattle.std.specs.Prelude.{◌≡◌, ◌++◌, ◌+◌, ◌<◌, ◌^◌, [], ℕ, List, length, IfOk, OnOk};
     ghost use Rattle.queries.specs.LogPieces.{TellsEnd, TellsPiece, teller_of};
-    ghost use Rattle.queries.specs.Reported.{start};
+    ghost use Rattle.queries.specs.Reported.{scope_of, start};
 
     /// Before the first piece.
     pub fn new(alloc: Global) -> LogTeller
@@ -77,33 +78,37 @@ impl LogTeller {
         }
     }
 
-    /// Appends what is told of the lines that end in this piece, on this file system. Only memory can be missing.
+    /// Appends what is told of the lines that end in this piece. Only memory can be missing.
     pub fn take(
         &mut self,
         reported: &mut Vec<u8>,
-        fs: &[u8],
+        scope: LogScope<'_>,
         piece: &[u8],
     ) -> Result<(), AllocError>
         requires room { (teller_of self.old).state.number + length (teller_of self.old).unfinished + length piece.now < 2 ^ 64 }
         requires few { (teller_of self.old).state.passed < (teller_of self.old).state.number }
         ensures { OnOk result ((more : List ℕ) × (reported.new.items ≡ reported.old.items ++ more)
-            × TellsPiece fs.now (teller_of self.old) piece.now more (teller_of self.new)) }
+            × TellsPiece (scope_of scope.entry) (teller_of self.old) piece.now more (teller_of self.new)) }
     {
         self.unfinished.extend_from_slice(piece)?;
-        let rest = print_lines(reported, &mut self.state, fs, self.unfinished.as_slice())?;
+        let rest = print_lines(reported, &mut self.state, scope, self.unfinished.as_slice())?;
         let unfinished = Vec::from_slice(*reported.allocator(), rest)?;
         self.unfinished = unfinished;
         Ok(())
     }
 
     /// Appends what is told of the last line, and how many lines are no checks; and answers whether each check of the log was judged.
-    pub fn finish(&mut self, reported: &mut Vec<u8>, fs: &[u8]) -> Result<bool, AllocError>
+    pub fn finish(
+        &mut self,
+        reported: &mut Vec<u8>,
+        scope: LogScope<'_>,
+    ) -> Result<bool, AllocError>
         requires room { (teller_of self.old).state.number < 2 ^ 63 }
         requires few { (teller_of self.old).state.passed < (teller_of self.old).state.number }
         ensures { IfOk result (λ judged. (more : List ℕ) × (reported.new.items ≡ reported.old.items ++ more)
-            × TellsEnd fs.now (teller_of self.old) more judged) }
+            × TellsEnd (scope_of scope.entry) (teller_of self.old) more judged) }
     {
-        print_line(reported, &mut self.state, fs, self.unfinished.as_slice())?;
+        print_line(reported, &mut self.state, scope, self.unfinished.as_slice())?;
         print_passed(reported, self.state.passed)?;
         Ok(self.state.is_judged)
     }
@@ -174,17 +179,17 @@ fn print_passed(reported: &mut Vec<u8>, passed: u64) -> Result<(), AllocError>
 fn print_lines<'a>(
     reported: &mut Vec<u8>,
     state: &mut LogState,
-    fs: &[u8],
+    scope: LogScope<'_>,
     text: &'a [u8],
 ) -> Result<&'a [u8], AllocError>
     requires room { state.old.number + length text.now < 2 ^ 64 }
     requires few { state.old.passed < state.old.number }
     ensures { IfOk result (λ rest. (more : List ℕ) × (reported.new.items ≡ reported.old.items ++ more)
-        × TellsLines fs.now (state_of state.old) text.now more rest.now (state_of state.new)) }
+        × TellsLines (scope_of scope.entry) (state_of state.old) text.now more rest.now (state_of state.new)) }
 {
     let mut rest = text;
     while let Some((line, behind)) = split_line(rest) {
-        print_line(reported, state, fs, line)?;
+        print_line(reported, state, scope, line)?;
         rest = behind;
     }
     Ok(rest)
@@ -194,13 +199,13 @@ fn print_lines<'a>(
 fn print_line(
     reported: &mut Vec<u8>,
     state: &mut LogState,
-    fs: &[u8],
+    scope: LogScope<'_>,
     line: &[u8],
 ) -> Result<(), AllocError>
     requires room { state.old.number + 1 < 2 ^ 64 }
     requires few { state.old.passed < state.old.number }
     ensures { OnOk result ((more : List ℕ) × (reported.new.items ≡ reported.old.items ++ more)
-        × IsReported fs.now (state_of state.old) line.now more (state_of state.new)) }
+        × IsReported (scope_of scope.entry) (state_of state.old) line.now more (state_of state.new)) }
 {
     if is_before(line) {
         state.keep(line)?;
@@ -211,7 +216,7 @@ fn print_line(
         return Ok(());
     };
     let before = said_before(state.before.as_slice());
-    let is_judged = print_between(reported, state.number, fs, before, front, text)?;
+    let is_judged = print_between(reported, state.number, scope, before, front, text)?;
     state.pass_check(is_judged);
     Ok(())
 }
@@ -220,13 +225,13 @@ fn print_line(
 fn print_between(
     reported: &mut Vec<u8>,
     number: u64,
-    fs: &[u8],
+    scope: LogScope<'_>,
     before: Option<Before<'_>>,
     front: &[u8],
     text: &[u8],
 ) -> Result<bool, AllocError>
     ensures { IfOk result (λ judged. (more : List ℕ) × (reported.new.items ≡ reported.old.items ++ more)
-        × SaysBehind number fs.now (option_map before_texts_of before.entry) (head_in (front.now, text.now)) more judged) }
+        × SaysBehind number (scope_of scope.entry) (option_map before_texts_of before.entry) (head_in (front.now, text.now)) more judged) }
 {
     let Some(head) = read_head(front, text) else {
         print_formless(reported, number)?;
@@ -236,8 +241,8 @@ fn print_between(
         print_formless(reported, number)?;
         return Ok(false);
     };
-    let given = given_for(fs, head.fs, before, &check);
-    print_check(reported, number, &given, &check)
+    let given = given_for(scope.fs, head.fs, before, &check);
+    print_check(reported, number, scope.only_denied, &given, &check)
 }
 
 // A check of another form.
@@ -254,11 +259,12 @@ fn print_formless(reported: &mut Vec<u8>, number: u64) -> Result<(), AllocError>
 fn print_check(
     reported: &mut Vec<u8>,
     number: u64,
+    only_denied: bool,
     given: &Given<'_>,
     check: &Check<'_>,
 ) -> Result<bool, AllocError>
     ensures { IfOk result (λ judged. (more : List ℕ) × (reported.new.items ≡ reported.old.items ++ more)
-        × Says number (given_texts_of given.now) (texts_of check.now) more judged) }
+        × Says number only_denied (given_texts_of given.now) (texts_of check.now) more judged) }
 {
     let Some(mask) = read_mask(check) else {
         print_unknown(reported, number, check.mask)?;
@@ -269,17 +275,16 @@ fn print_check(
     let mut values = no_values(alloc);
     fill(&mut values, given, check)?;
     let has_path = given.has_path();
+    let manner = Manner {
+        number,
+        only_denied,
+        has_path,
+        grants: check.grants,
+    };
     match Question::read(alloc, &values) {
         Ok(question) => {
             let asked = asked.as_slice();
-            let is_judged = print_answers(
-                reported,
-                number,
-                has_path,
-                check.grants,
-                question,
-                asked,
-            )?;
+            let is_judged = print_answers(reported, manner, question, asked)?;
             Ok(is_judged)
         }
         Err(fault) => {
@@ -298,23 +303,46 @@ fn print_unknown(reported: &mut Vec<u8>, number: u64, mask: &[u8]) -> Result<(),
     Ok(reported.push(b'\n')?)
 }
 
-// The answers to the question, whose grants were read in this text, by each of these accesses in the place of its own; and whether each is
-// one, which it may not be where its path is not known.
+// How the answers to a check are told.
+#[derive(Clone, Copy)]
+struct Manner<'a> {
+    // The number of its line.
+    number: u64,
+    // Whether what is allowed is left out.
+    only_denied: bool,
+    // Whether its path is known.
+    has_path: bool,
+    // The text that its grants were read in.
+    grants: &'a [u8],
+}
+
+impl Manner<'_> {
+    ghost use Rattle.std.specs.Prelude.{◌≡◌, ◌&&◌};
+
+    // Whether an answer is left out, by whether it is that something is allowed.
+    fn leaves_out(&self, is_allowed: bool) -> bool
+        ensures { result ≡ (self.now.only_denied && is_allowed) }
+    {
+        self.only_denied && is_allowed
+    }
+}
+
+// The answers to the question, by each of these accesses in the place of its own; and whether each is one, which it may not be where its path
+// is not known.
 fn print_answers(
     reported: &mut Vec<u8>,
-    number: u64,
-    has_path: bool,
-    grants: &[u8],
+    manner: Manner<'_>,
     mut question: Question,
     accesses: &[Access],
 ) -> Result<bool, AllocError>
-    ensures printed { OnOk result (reported.new.items ≡ reported.old.items ++ flat_map (said_line has_path number grants.now question) accesses.now) }
-    ensures judged { IfOk result (λ judged. judged ≡ list_all (is_answer has_path question) accesses.now) }
+    ensures printed { OnOk result (reported.new.items ≡ reported.old.items
+        ++ flat_map (told_line manner.entry.only_denied manner.entry.has_path manner.entry.number manner.entry.grants.now question) accesses.now) }
+    ensures judged { IfOk result (λ judged. judged ≡ list_all (is_answer manner.entry.has_path question) accesses.now) }
 {
     let mut is_judged = true;
     for access in accesses {
         question.access = *access;
-        let is_answer = print_said(reported, number, has_path, grants, &question)?;
+        let is_answer = print_said(reported, manner, &question)?;
         is_judged &= is_answer;
     }
     Ok(is_judged)
@@ -322,19 +350,34 @@ fn print_answers(
 
 fn print_said(
     reported: &mut Vec<u8>,
-    number: u64,
-    has_path: bool,
-    grants: &[u8],
+    manner: Manner<'_>,
     question: &Question,
 ) -> Result<bool, AllocError>
-    ensures printed { OnOk result (reported.new.items ≡ reported.old.items ++ said_line has_path number grants.now question.now question.now.access) }
-    ensures judged { IfOk result (λ judged. judged ≡ is_answer has_path question.now question.now.access) }
+    ensures printed { OnOk result (reported.new.items ≡ reported.old.items
+        ++ told_line manner.entry.only_denied manner.entry.has_path manner.entry.number manner.entry.grants.now question.now question.now.access) }
+    ensures judged { IfOk result (λ judged. judged ≡ is_answer manner.entry.has_path question.now question.now.access) }
 {
-    if has_path {
-        print_answer(reported, number, grants, question)?;
+    if manner.has_path {
+        print_known(reported, manner, question)?;
         return Ok(true);
     }
-    print_pathless(reported, number, question)
+    print_pathless(reported, manner, question)
+}
+
+// What is answered where a path is known.
+fn print_known(
+    reported: &mut Vec<u8>,
+    manner: Manner<'_>,
+    question: &Question,
+) -> Result<(), AllocError>
+    ensures { OnOk result (reported.new.items ≡ reported.old.items
+        ++ told_line manner.entry.only_denied true manner.entry.number manner.entry.grants.now question.now question.now.access) }
+{
+    let is_allowed = question.is_allowed(*reported.allocator())?;
+    if manner.leaves_out(is_allowed) {
+        return Ok(());
+    }
+    print_answer(reported, manner.number, manner.grants, question)
 }
 
 fn print_answer(
@@ -350,19 +393,25 @@ fn print_answer(
     reported.extend_from_slice(lines.as_slice())
 }
 
-// What is answered where no path is known, and whether that is the same at each path.
+// What is answered where none is, and whether that is the same at each path.
 fn print_pathless(
     reported: &mut Vec<u8>,
-    number: u64,
+    manner: Manner<'_>,
     question: &Question,
 ) -> Result<bool, AllocError>
-    ensures printed { OnOk result (reported.new.items ≡ reported.old.items ++ pathless_line number question.now question.now.access) }
+    ensures printed { OnOk result (reported.new.items ≡ reported.old.items
+        ++ told_line manner.entry.only_denied false manner.entry.number manner.entry.grants.now question.now question.now.access) }
     ensures judged { IfOk result (λ judged. judged ≡ is_answer false question.now question.now.access) }
 {
-    print(reported, format_args!("{number}: no path in this line: "))?;
     let any = question.at_any_path(*reported.allocator())?;
+    let is_sure = any.is_sure();
+    if manner.leaves_out(any.is_anywhere()) {
+        return Ok(is_sure);
+    }
+    let number = manner.number;
+    print(reported, format_args!("{number}: no path in this line: "))?;
     print_any_path(reported, question.access, any)?;
-    Ok(any.is_sure())
+    Ok(is_sure)
 }
 
 // Why the values of a check ask nothing.

@@ -1,7 +1,7 @@
 use Rattle.std.proofs.Common.{[], Option, sym, subst, ap, append-nil, ◌∙◌}
 use Rattle.queries.specs.Before.{BeforeTexts, said_before}
 use Rattle.queries.specs.Checks.{head_in}
-use Rattle.queries.specs.Reported.{IsReported, SaysBehind, State, state_of}
+use Rattle.queries.specs.Reported.{IsReported, SaysBehind, State, scope_of, state_of}
 use Rattle.queries.specs.Reported.IsReported.{checked, kept, passed_over}
 use Rattle.queries.proofs.log_text.print_line.Goals as goal
 
@@ -9,14 +9,14 @@ pub returns-then-is_before : goal.returns-then-is_before
 returns-then-is_before c = (
   [],
   sym (append-nil c.args.reported.now.items),
-  subst (λ (next : State). IsReported c.args.fs.now (state_of c.args.state.now) c.args.line.now [] next) (sym c.in_ok-keep.ensures) (kept (sym c.is_before.ensures ∙ c.if-is_before.true)),
+  subst (λ (next : State). IsReported (scope_of c.args.scope) (state_of c.args.state.now) c.args.line.now [] next) (sym c.in_ok-keep.ensures) (kept (sym c.is_before.ensures ∙ c.if-is_before.true)),
 )
 
 pub returns-in_default : goal.returns-in_default
 returns-in_default c = (
   [],
   sym (append-nil c.args.reported.now.items),
-  subst (λ (next : State). IsReported c.args.fs.now (state_of c.args.state.now) c.args.line.now [] next) (sym c.pass_over.ensures) (passed_over (sym c.is_before.ensures ∙ c.if-is_before.false) c.in_default.ensures),
+  subst (λ (next : State). IsReported (scope_of c.args.scope) (state_of c.args.state.now) c.args.line.now [] next) (sym c.pass_over.ensures) (passed_over (sym c.is_before.ensures ∙ c.if-is_before.false) c.in_default.ensures),
 )
 
 pub returns : goal.returns
@@ -26,7 +26,7 @@ returns c =
     let old = state_of c.args.state.now in (
       says.0,
       says.1,
-      subst (λ (next : State). IsReported c.args.fs.now old c.args.line.now says.0 next) (sym c.pass_check.ensures)
+      subst (λ (next : State). IsReported (scope_of c.args.scope) old c.args.line.now says.0 next) (sym c.pass_check.ensures)
           (checked (c.in-Some.front.now, c.in-Some.text.now) says.0 judged (sym c.is_before.ensures ∙ c.if-is_before.false) c.in-Some.ensures
-          (subst (λ (b : Option BeforeTexts). SaysBehind c.args.state.now.number c.args.fs.now b (head_in (c.in-Some.front.now, c.in-Some.text.now)) says.0 judged) (c.said_before-before.ensures ∙ ap said_before c.as_slice.ensures.value) says.2)),
+          (subst (λ (b : Option BeforeTexts). SaysBehind c.args.state.now.number (scope_of c.args.scope) b (head_in (c.in-Some.front.now, c.in-Some.text.now)) says.0 judged) (c.said_before-before.ensures ∙ ap said_before c.as_slice.ensures.value) says.2)),
     )

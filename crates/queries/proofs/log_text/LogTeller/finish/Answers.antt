@@ -1,5 +1,5 @@
 use Rattle.std.proofs.Common.{List, ℕ, ◌++◌, ap, refl, subst, ◌∙◌, append_assoc}
-use Rattle.queries.specs.Reported.{IsReported, passed_line, state_of}
+use Rattle.queries.specs.Reported.{IsReported, passed_line, scope_of, state_of}
 use Rattle.queries.proofs.log_text.LogTeller.finish.Goals as goal
 
 pub returns : goal.returns
@@ -12,7 +12,7 @@ returns c =
       record {
         last = says.0;
         end = next;
-        reported = subst (λ (line : List ℕ). IsReported c.args.fs.now (state_of c.args.self.now.state) line says.0 next) c.as_slice.ensures.value says.2;
+        reported = subst (λ (line : List ℕ). IsReported (scope_of c.args.scope) (state_of c.args.self.now.state) line says.0 next) c.as_slice.ensures.value says.2;
         more_is = refl;
         judged_is = refl;
       },

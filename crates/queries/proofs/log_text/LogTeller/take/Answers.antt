@@ -1,5 +1,5 @@
 use Rattle.std.proofs.Common.{◌≡◌, List, ℕ, ◌++◌, length, ap, subst, sym, ◌∙◌, arith, length-append}
-use Rattle.queries.specs.Reported.{state_of}
+use Rattle.queries.specs.Reported.{scope_of, state_of}
 use Rattle.queries.specs.LogPieces.{TellsLines}
 use Rattle.queries.proofs.log_text.LogTeller.take.Goals as goal
 
@@ -16,6 +16,6 @@ returns c =
     let next = state_of c.print_lines.new.state in (
       says.0,
       says.1,
-      subst (λ (t : List ℕ). TellsLines c.args.fs.now old t says.0 c.in_ok-unfinished.unfinished.items next) text
-          (subst (λ (rest : List ℕ). TellsLines c.args.fs.now old c.as_slice.result.now says.0 rest next) (sym c.in_ok-unfinished.ensures.items) says.2),
+      subst (λ (t : List ℕ). TellsLines (scope_of c.args.scope) old t says.0 c.in_ok-unfinished.unfinished.items next) text
+          (subst (λ (rest : List ℕ). TellsLines (scope_of c.args.scope) old c.as_slice.result.now says.0 rest next) (sym c.in_ok-unfinished.ensures.items) says.2),
     )
