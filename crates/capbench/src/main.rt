@@ -3,18 +3,46 @@
 //! files that are named to it, to the commands of `capd` and to its own: it prints a line for each talk.
 #![tactic(auto)]
 
+mod book;
+mod cli_commands;
+mod commands;
+mod digest;
+mod directory_moves;
+mod explaining;
+mod fault;
+mod job;
+mod jobs;
+mod judging;
+mod limits;
+mod lines;
+mod page;
 mod play;
+mod publishing;
+mod questions;
+mod retry;
+mod run;
+mod scripts;
+mod server_commands;
+mod server_work;
+mod serving;
+mod shared_files;
+mod streams;
+mod talk_fault;
+mod talk_line;
+mod talk_text;
+mod tenants;
+mod words;
 mod work;
 
+use crate::cli_commands::dispatch;
+use crate::commands::report;
+use crate::fault::Fault;
 use crate::play::play_files;
-use crate::work::dispatch;
-use bench_kit::{Fault, report};
-use cli_queries::words;
 use std::process::ExitCode;
 
 fn main(rt: HostRuntime) -> ExitCode {
     let (mut reader, mut writer, mut faults) = (rt.stdin(), rt.stdout(), rt.stderr());
-    let Ok(words) = words(&rt, rt.alloc()) else {
+    let Ok(words) = cli_queries::words(&rt, rt.alloc()) else {
         return ExitCode::from(report(Fault::NoMemory, &mut faults));
     };
     let status = match words.as_slice() {

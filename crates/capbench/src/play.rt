@@ -1,7 +1,11 @@
 //! Talks, played to the commands of `capd` and to those of this program.
 
-use crate::work;
-use bench_kit::{Outcome, Output, Page, Place, Program, Run, TalkFault, read_talks};
+use crate::book::read_talks;
+use crate::cli_commands;
+use crate::page::Page;
+use crate::run::{Outcome, Program, Run};
+use crate::streams::Output;
+use crate::talk_fault::{Place, TalkFault};
 use std::fs;
 use std::fs::Files;
 use std::io::Write;
@@ -73,7 +77,13 @@ fn outcome(rt: &(impl AllocGlobal + Files + Threads + Wait + Sync), run: &Run) -
             let (mut reader, mut writer) = (Watched::new(reader), Watched::new(writer));
             cli::dispatch(rt, words, &mut reader, &mut writer, &mut faults)
         }
-        Program::Capbench => work::dispatch(rt, words, &mut reader, &mut writer, &mut faults),
+        Program::Capbench => cli_commands::dispatch(
+            rt,
+            words,
+            &mut reader,
+            &mut writer,
+            &mut faults,
+        ),
     };
     came
 }

@@ -1,55 +1,45 @@
-//! The work that is counted and timed.
+//! The pieces of work that take no server, and the words that name them.
 
-use bench_kit::{Amount, Fault, history_digest, served_script, tell_digest};
-use cli::serve;
-use std::alloc::Global;
-use std::io::{Read, Write};
-use std::sync::Wait;
-use std::thread::Threads;
-use texts::Watched;
+use crate::words::meaning;
+use capbits::read_u32;
 
-/// Does what the words ask for, and returns the status. Of all jobs only `serve` is done here: it takes a server.
-pub fn dispatch(
-    rt: &(impl AllocGlobal + Threads + Wait + Sync),
-    words: &[Vec<u8>],
-    reader: &mut impl Read,
-    writer: &mut impl Write,
-    faults: &mut impl Write,
-) -> u8 {
+/// A piece of work.
+#[derive(Clone, Copy)]
+pub(crate) enum Work {
+    /// Work on the text of grants, done so many times.
+    Grants(GrantWork, u32),
+    /// Play the lines of a script on a core, and ask again for what finds no memory.
+    Retry,
+}
+
+/// What is done with the text of grants.
+#[derive(Clone, Copy)]
+pub(crate) enum GrantWork {
+    /// Judge an access, by grants that were read before.
+    Verdict,
+    /// Read the text.
+    Parse,
+}
+
+/// The words before a number, that of the times.
+const COUNTED: &[(&[u8], GrantWork)] = &[
+    (b"verdict", GrantWork::Verdict),
+    (b"parse", GrantWork::Parse),
+];
+
+/// What the words of a command line ask for; nothing where they are not understood.
+pub(crate) fn work_of(words: &[Vec<u8>]) -> Option<Work> {
     match words {
-        [job, count, seed] if job.as_slice() == b"serve".as_slice() => {
-            let digest = serve_script(rt, rt.alloc(), count.as_slice(), seed.as_slice());
-            tell_digest(digest, writer, faults)
-        }
-        _ => bench_kit::dispatch(rt, rt.alloc(), words, reader, writer, faults),
+        [work] if work.as_slice() == b"retry".as_slice() => Some(Work::Retry),
+        [work, times] => grant_work(work.as_slice(), times.as_slice()),
+        _ => None,
     }
 }
 
-// Serves a script whose clients call from threads of their own, and returns the digest of its history.
-fn serve_script(
-    rt: &(impl Threads + Wait + Sync),
-    alloc: Global,
-    count: &[u8],
-    seed: &[u8],
-) -> Result<u64, Fault> {
-    let script = served_script(alloc, Amount::read(count, seed)?)?;
-    let history = served(rt, alloc, script.as_slice())?;
-    Ok(history_digest(history.as_slice()))
-}
-
-// What is written of a script that is served. What is promised of it stays behind here.
-fn served(
-    rt: &(impl Threads + Wait + Sync),
-    alloc: Global,
-    script: &[u8],
-) -> Result<Vec<u8>, Fault> {
-    let mut written = Vec::new(alloc);
-    let mut reader = script;
-    serve(
-        rt,
-        alloc,
-        &mut Watched::new(&mut reader),
-        &mut Watched::new(&mut written),
-    )?;
-    Ok(written)
+// Work on grants. Options are matched at once: each `?` would be a way out for the proof.
+fn grant_work(work: &[u8], times: &[u8]) -> Option<Work> {
+    match (meaning(COUNTED, work), read_u32(times)) {
+        (Some(work), Some(times)) => Some(Work::Grants(work, times)),
+        _ => None,
+    }
 }

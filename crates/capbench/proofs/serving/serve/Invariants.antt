@@ -1,4 +1,4 @@
-use Rattle.bench_kit.proofs.serving.serve.Given as goal
+use Rattle.capbench.proofs.serving.serve.Given as goal
 
 abbrev pub ghosts-served-L-Ledger : goal.ghosts-served-L-Ledger
 ghosts-served-L-Ledger g a = record { name = a.blank.name; parts = a.blank.parts }

@@ -1,7 +1,7 @@
 -- The status with which the program ends.
 use Rattle.std.specs.Prelude.{ℕ}
-use Rattle.bench_kit.specs.declared.fault.Fault.{Fault}
-use Rattle.bench_kit.specs.declared.fault.Fault.TheVariants.{Changed, Full, InVain, NoJob, NoMemory, ReadFailed, Text, Usage, WriteFailed}
+use Rattle.capbench.specs.declared.fault.Fault.{Fault}
+use Rattle.capbench.specs.declared.fault.Fault.TheVariants.{Changed, Full, InVain, NoJob, NoMemory, ReadFailed, Text, Usage, WriteFailed}
 
 -- 2 where the words are not understood, else 1
 abbrev pub status_of : Fault → ℕ

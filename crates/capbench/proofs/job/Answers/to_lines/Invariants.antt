@@ -1,5 +1,5 @@
 use Rattle.std.proofs.Common.{length}
-use Rattle.bench_kit.proofs.job.Answers.to_lines.Given as goal
+use Rattle.capbench.proofs.job.Answers.to_lines.Given as goal
 
 abbrev pub decreases-loop-line : goal.decreases-loop-line
 decreases-loop-line l = length l.rest

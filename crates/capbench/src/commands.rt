@@ -1,6 +1,6 @@
 //! The work that takes no server, over words and streams that the caller passes.
 ghost use Rattle.std.specs.Prelude.{◌≡◌, ◌≤◌};
-ghost use Rattle.bench_kit.specs.Status.{status_of};
+ghost use Rattle.capbench.specs.Status.{status_of};
 
 use crate::fault::Fault;
 use crate::jobs::{Amount, digest_of};

@@ -1,4 +1,4 @@
-use Rattle.bench_kit.proofs.job.Answers.to_lines.Goals as goal
+use Rattle.capbench.proofs.job.Answers.to_lines.Goals as goal
 
 pub loop-line-smaller : goal.loop-line-smaller
 loop-line-smaller c = c.in-Some.ensures.shorter

@@ -1,6 +1,6 @@
 //! The work on grants: reading them, and judging an access by them.
 ghost use Rattle.std.specs.Prelude.{◌≡◌};
-ghost use Rattle.bench_kit.specs.Score.{score};
+ghost use Rattle.capbench.specs.Score.{score};
 
 use crate::fault::Fault;
 use crate::work::GrantWork;
