@@ -77,13 +77,11 @@ impl TreeInode {
 pub(crate) fn read_inode(alloc: Global, item: &Value) -> Result<Option<TreeInode>, AllocError>
     ensures { IfOk result (λ inode. inode ≡ inode_of (view item.now)) }
 {
-    let Some(number) = number_at(item, "ino") else {
-        return Ok(None);
-    };
-    let Some(attr) = attr_in(item) else {
-        return Ok(None);
-    };
-    let Some(items) = items_at(item, "client_caps") else {
+    let (Some(number), Some(attr), Some(items)) = (
+        number_at(item, "ino"),
+        attr_in(item),
+        items_at(item, "client_caps"),
+    ) else {
         return Ok(None);
     };
     let Some(holders) = read_holders(alloc, items)? else {
@@ -116,11 +114,18 @@ fn read_prior_path(alloc: Global, item: &Value) -> Result<Option<TreePath>, Allo
 fn attr_in(item: &Value) -> Option<Attr>
     ensures { result ≡ attr_in (view item.now) }
 {
-    Some(Attr {
-        uid: id_at(item, "uid")?,
-        gid: id_at(item, "gid")?,
-        mode: mode_of(number_at(item, "mode")?),
-    })
+    match (
+        id_at(item, "uid"),
+        id_at(item, "gid"),
+        number_at(item, "mode"),
+    ) {
+        (Some(uid), Some(gid), Some(bits)) => Some(Attr {
+            uid,
+            gid,
+            mode: mode_of(bits),
+        }),
+        _ => None,
+    }
 }
 
 // The mode without the kind of the inode, which stands above its twelve bits.

@@ -45,7 +45,7 @@ impl Tree {
     }
 }
 
-// Adds the inode that an item is, with the paths that it leads to. False where it is none, and then no inode is added.
+// Adds the inode that an item is, with the paths that it leads to. False where it is none, and then no inode is added, but some paths may be.
 pub(crate) fn add_inode(
     alloc: Global,
     inodes: &mut Vec<TreeInode>,
@@ -54,12 +54,14 @@ pub(crate) fn add_inode(
 ) -> Result<bool, AllocError>
     ensures added { IfOk result (λ good. with_inode (dump inodes.old.items paths.old) (view item.now) ≡ (if good then Some (dump inodes.new.items paths.new) else None)) }
 {
-    let Some(inode) = read_inode(alloc, item)? else {
-        return Ok(false);
-    };
     if !add_directory(alloc, paths, item)? {
         return Ok(false);
     }
-    inodes.push(inode)?;
-    Ok(true)
+    match read_inode(alloc, item)? {
+        Some(inode) => {
+            inodes.push(inode)?;
+            Ok(true)
+        }
+        None => Ok(false),
+    }
 }

@@ -1,6 +1,7 @@
 //! What stands at the keys of JSON objects.
 
 ghost use Rattle.std.specs.Prelude.{◌≡◌, Some, IfOk, IfErr, option_map};
+ghost use Rattle.serde_json.specs.Find.{as_array};
 ghost use Rattle.serde_json.specs.View.{items_view, view};
 ghost use Rattle.ceph_input.specs.Auth.{json_of};
 ghost use Rattle.ceph_input.specs.Values.{IsNoJson, id_at, items_at, number_at, text_at};
@@ -50,11 +51,9 @@ pub(crate) fn number_at(value: &Value, key: &str) -> Option<u64>
 pub(crate) fn id_at(value: &Value, key: &str) -> Option<u32>
     ensures { result ≡ id_at key.now (view value.now) }
 {
-    let number = number_at(value, key)?;
-    if number < 0x1_0000_0000 {
-        Some(number as u32)
-    } else {
-        None
+    match number_at(value, key) {
+        Some(number) => u32::try_from(number).ok(),
+        None => None,
     }
 }
 
@@ -62,9 +61,18 @@ pub(crate) fn id_at(value: &Value, key: &str) -> Option<u32>
 pub(crate) fn items_at<'v>(value: &'v Value, key: &str) -> Option<&'v [Value]>
     ensures { option_map (λ items. items_view items.now) result ≡ items_at key.now (view value.now) }
 {
-    let Some(list) = value.get(key) else {
-        return Some(&[]);
-    };
-    let items = list.as_array()?;
-    Some(items.as_slice())
+    match value.get(key) {
+        Some(list) => items_of(list),
+        None => Some(&[]),
+    }
+}
+
+// The items of a list.
+fn items_of(list: &Value) -> Option<&[Value]>
+    ensures { option_map (λ items. items_view items.now) result ≡ as_array (view list.now) }
+{
+    match list.as_array() {
+        Some(items) => Some(items.as_slice()),
+        None => None,
+    }
 }
