@@ -8,14 +8,6 @@ use Rattle.release_rules.specs.declared.rule.Rule.TheVariants.{RootSquash, Uid}
 abbrev pub all_rules : List Rule
 all_rules = FsName ∷ Uid ∷ Gids ∷ Path ∷ NoWrite ∷ RootSquash ∷ NoP ∷ NoS ∷ NotOwner ∷ NotOwnGroup ∷ ModeBits ∷ NoF ∷ Network ∷ []
 
--- those behind the path, which look at what is asked
-abbrev pub asking_rules : List Rule
-asking_rules = NoWrite ∷ RootSquash ∷ NoP ∷ NoS ∷ NotOwner ∷ NotOwnGroup ∷ ModeBits ∷ NoF ∷ Network ∷ []
-
--- the last of them, from those on the inode's owner on
-abbrev pub last_rules : List Rule
-last_rules = NotOwner ∷ NotOwnGroup ∷ ModeBits ∷ NoF ∷ Network ∷ []
-
 -- the number of a rule: its place in that order, from 1. The first eleven have those of the server's own rules.
 abbrev pub rule_number : Rule → ℕ
 rule_number FsName = 1

@@ -26,54 +26,22 @@ pub struct Asked {
     pub full: bool,
 }
 
-// A check that asks for nothing.
-const NOTHING: Asked = Asked {
-    read: false,
-    write: false,
-    execute: false,
-    new_owner: None,
-    new_group: None,
-    set_vxattr: false,
-    snapshot: false,
-    full: false,
-};
-
-// A check that asks to write.
-const WRITE: Asked = Asked {
-    write: true,
-    ..NOTHING
-};
-
 impl Asked {
     ghost use Rattle.std.specs.Prelude.{◌≡◌};
     ghost use Rattle.release_rules.specs.Asked.{asked_by, asked_for};
 
-    /// What an MDS asks its grants for an access.
+    /// What an MDS asks its grants for an access, by the bits of the mask that it is.
     pub fn of_access(access: Access) -> Asked
         ensures { result ≡ asked_for access }
     {
+        // All but the first and that of an attribute are a write (2) besides.
         match access {
-            Access::Read => Asked {
-                read: true,
-                ..NOTHING
-            },
-            Access::Write | Access::Chmod => WRITE,
-            Access::SetVxattr => Asked {
-                set_vxattr: true,
-                ..NOTHING
-            },
-            Access::Snapshot => Asked {
-                snapshot: true,
-                ..WRITE
-            },
-            Access::Chown(uid) => Asked {
-                new_owner: Some(uid),
-                ..WRITE
-            },
-            Access::Chgrp(gid) => Asked {
-                new_group: Some(gid),
-                ..WRITE
-            },
+            Access::Read => Asked::of_mask(1, 0, 0),
+            Access::Write | Access::Chmod => Asked::of_mask(2, 0, 0),
+            Access::SetVxattr => Asked::of_mask(64, 0, 0),
+            Access::Snapshot => Asked::of_mask(130, 0, 0),
+            Access::Chown(uid) => Asked::of_mask(18, uid, 0),
+            Access::Chgrp(gid) => Asked::of_mask(34, 0, gid),
         }
     }
 

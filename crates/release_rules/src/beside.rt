@@ -123,7 +123,8 @@ fn beside(
 pub fn denied_there(access: Access, number: usize, rules: &[Rule]) -> Otherwise
     ensures { result ≡ denied_there access number rules.now }
 {
-    let rule = rules.get(number.saturating_sub(1)).copied();
+    let place = number.saturating_sub(1);
+    let rule = rules.get(place).copied();
     Otherwise {
         allows: false,
         grant: number,

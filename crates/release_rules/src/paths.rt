@@ -1,7 +1,7 @@
 //! What lies at or below the directory of a grant.
 ghost use Rattle.std.specs.Prelude.{◌≡◌};
 ghost use Rattle.capspec.specs.Words.{rest_while};
-ghost use Rattle.release_rules.specs.Paths.{directory_of, lies_in, path_text, without_first_slashes, without_last_slashes};
+ghost use Rattle.release_rules.specs.Paths.{directory_of, ends_in_slash, ends_name, lies_in, path_text, without_first_slashes, without_last_slashes};
 
 use crate::bytes::rest_while;
 use crate::release::Switches;
@@ -35,7 +35,25 @@ pub(crate) fn lies_in(directory: &[u8], path: &[u8]) -> bool
         return true;
     }
     match path.strip_prefix(directory) {
-        Some(rest) => matches!(rest, [] | [b'/', ..]) || directory.last() == Some(&b'/'),
+        Some(rest) => ends_name(rest) || ends_in_slash(directory),
+        None => false,
+    }
+}
+
+fn ends_name(rest: &[u8]) -> bool
+    ensures { result ≡ ends_name rest.now }
+{
+    match rest {
+        [] => true,
+        [byte, ..] => *byte == b'/',
+    }
+}
+
+fn ends_in_slash(text: &[u8]) -> bool
+    ensures { result ≡ ends_in_slash text.now }
+{
+    match text.last() {
+        Some(byte) => *byte == b'/',
         None => false,
     }
 }

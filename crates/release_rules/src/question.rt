@@ -18,6 +18,23 @@ use capspec::{FsName, TreePath};
 use std::marker::Model;
 use std::net::IpAddr;
 
+// Every rule, in the order of their numbers.
+const ALL_RULES: [Rule; 13] = [
+    Rule::FsName,
+    Rule::Uid,
+    Rule::Gids,
+    Rule::Path,
+    Rule::NoWrite,
+    Rule::RootSquash,
+    Rule::NoP,
+    Rule::NoS,
+    Rule::NotOwner,
+    Rule::NotOwnGroup,
+    Rule::ModeBits,
+    Rule::NoF,
+    Rule::Network,
+];
+
 /// What is asked of the grants of a client: whether, on this file system, this caller may do this with an inode.
 pub struct Question<'a> {
     /// The name of the file system.
@@ -59,8 +76,7 @@ impl<'a> Model for Question<'a> {
 }
 
 impl Question<'_> {
-    ghost use Rattle.std.specs.Prelude.{◌≡◌, ◌≤◌, find, not};
-    ghost use Rattle.release_rules.specs.Rules.{asking_rules, last_rules};
+    ghost use Rattle.std.specs.Prelude.{◌≡◌, ◌≤◌, not};
     ghost use Rattle.release_rules.specs.Question.{class_unit, is_owner};
     ghost use Rattle.release_rules.specs.Failing.{fails, fails_fsname, fails_gids, fails_mode_bits, fails_network, fails_no_f, fails_no_p, fails_no_s};
     ghost use Rattle.release_rules.specs.Failing.{fails_no_write, fails_not_own_group, fails_not_owner, fails_path, fails_root_squash, fails_uid};
@@ -113,52 +129,30 @@ impl Question<'_> {
     pub fn first_failing(&self, switches: Switches, grant: &Grant) -> Option<Rule>
         ensures { result ≡ first_failing switches self.now grant.now }
     {
-        if self.fails_fsname(switches, grant) {
-            Some(Rule::FsName)
-        } else if self.fails_uid(switches, grant) {
-            Some(Rule::Uid)
-        } else if self.fails_gids(switches, grant) {
-            Some(Rule::Gids)
-        } else if self.fails_path(switches, grant) {
-            Some(Rule::Path)
-        } else {
-            self.first_failing_by_asked(switches, grant)
-        }
+        ALL_RULES
+            .iter()
+            .copied()
+            .find(|rule| self.fails(*rule, switches, grant))
     }
 
-    // The first of the rules on what is asked.
-    fn first_failing_by_asked(&self, switches: Switches, grant: &Grant) -> Option<Rule>
-        ensures { result ≡ find (λ r. fails r switches self.now grant.now) asking_rules }
+    // Whether the grant fails by the rule.
+    fn fails(&self, rule: Rule, switches: Switches, grant: &Grant) -> bool
+        ensures { result ≡ fails rule switches self.now grant.now }
     {
-        if self.fails_no_write(grant) {
-            Some(Rule::NoWrite)
-        } else if self.fails_root_squash(grant) {
-            Some(Rule::RootSquash)
-        } else if self.fails_no_p(grant) {
-            Some(Rule::NoP)
-        } else if self.fails_no_s(grant) {
-            Some(Rule::NoS)
-        } else {
-            self.first_failing_by_attr(switches, grant)
-        }
-    }
-
-    // The first of the rules from those on the inode's owner, group and mode on.
-    fn first_failing_by_attr(&self, switches: Switches, grant: &Grant) -> Option<Rule>
-        ensures { result ≡ find (λ r. fails r switches self.now grant.now) last_rules }
-    {
-        if self.fails_not_owner(switches, grant) {
-            Some(Rule::NotOwner)
-        } else if self.fails_not_own_group(switches, grant) {
-            Some(Rule::NotOwnGroup)
-        } else if self.fails_mode_bits(switches, grant) {
-            Some(Rule::ModeBits)
-        } else if self.fails_no_f(grant) {
-            Some(Rule::NoF)
-        } else if self.fails_network(grant) {
-            Some(Rule::Network)
-        } else {
-            None
+        match rule {
+            Rule::FsName => self.fails_fsname(switches, grant),
+            Rule::Uid => self.fails_uid(switches, grant),
+            Rule::Gids => self.fails_gids(switches, grant),
+            Rule::Path => self.fails_path(switches, grant),
+            Rule::NoWrite => self.fails_no_write(grant),
+            Rule::RootSquash => self.fails_root_squash(grant),
+            Rule::NoP => self.fails_no_p(grant),
+            Rule::NoS => self.fails_no_s(grant),
+            Rule::NotOwner => self.fails_not_owner(switches, grant),
+            Rule::NotOwnGroup => self.fails_not_own_group(switches, grant),
+            Rule::ModeBits => self.fails_mode_bits(switches, grant),
+            Rule::NoF => self.fails_no_f(grant),
+            Rule::Network => self.fails_network(grant),
         }
     }
 
@@ -350,12 +344,7 @@ fn lists_one_of(grant: &Grant, caller: &Caller) -> bool
 fn lists_any(listed: &[u32], gids: &[u32]) -> bool
     ensures { result ≡ list_any (contains listed.now) gids.now }
 {
-    for gid in gids {
-        if listed.contains(gid) {
-            return true;
-        }
-    }
-    false
+    gids.iter().any(|gid| listed.contains(gid))
 }
 
 // Whether the caller acts by this group under a grant.
