@@ -1,17 +1,19 @@
 -- A cluster that was audited, or was not.
 use Rattle.std.proofs.Common.{◌≡◌, ℕ, Bool, List, Option, None, Some, inl, inr, subst, sym, ap, ◌∙◌}
 use Rattle.std.specs.Io.KnownBytes.{Appends}
-use Rattle.std.specs.Prelude.{Err, IfErr, IfOk, IfSome, IsErrAnd, IsFalse, Ok, OnOk, Result, if◌then◌else◌}
+use Rattle.std.specs.Prelude.{Err, IfErr, IfOk, IfSome, IsErrAnd, IsFalse, IsTrue, Ok, OnOk, Result, if◌then◌else◌}
 use Rattle.ceph_input.specs.Auth.{auth_of}
 use Rattle.ceph_input.specs.Dump.{Dump, tree_of}
 use Rattle.ceph_input.specs.FsNames.{AreFsNames, fs_among}
-use Rattle.cluster_audit.specs.Audited.{AreClients, IsReport, Roster, clients_of}
+use Rattle.cluster_audit.specs.Audited.{AreClients, IsFaultOfClients, IsReport, Roster, clients_of}
+use Rattle.cluster_audit.specs.declared.fault.HeldFault.{HeldFault}
 use Rattle.queries.specs.declared.fault.QuestionFault.{QuestionFault}
 use Rattle.queries.specs.declared.fault.QuestionFault.TheVariants.{BadValue}
 use Rattle.queries.specs.declared.options.Opt.TheVariants.{Fs}
 use Rattle.queries.specs.Values.{IsFsIf}
 use Rattle.cli_queries.specs.declared.audit_args.AuditArgs.{AuditArgs}
 use Rattle.cli_queries.specs.declared.fault.AnswerFault.{AnswerFault}
+use Rattle.cli_queries.specs.declared.fault.AnswerFault.TheVariants.{Cluster, NoMemory, WriteFailed}
 use Rattle.cli_queries.specs.AuditArgs.{AnswersAuditArgs, AreClientsOf, StopsAuditArgs}
 use Rattle.cli_queries.specs.Fault.{IsFaultOfNames, fault_of}
 use Rattle.cli_queries.specs.FileSystems.{AreNamedIn}
@@ -29,6 +31,27 @@ pub bad_fs : {T : Type 0} (audit_args : AuditArgs) (input known : Option (List �
     → IsErrAnd answer (λ fault. fault ≡ fault_of found) → IfErr answer (λ fault. StopsAuditArgs audit_args fault input unread unwritten known known)
 bad_fs audit_args input known unread unwritten found (Ok x) bad reported = tt
 bad_fs audit_args input known unread unwritten found (Err fault) bad reported = inr (inl (reported ∙ ap fault_of bad.0, bad.1), unchanged known)
+
+-- the auth list or the sessions are none
+pub bad_clients : {T : Type 0} (audit_args : AuditArgs) (auth sessions : List ℕ) (input bytes : Option (List ℕ)) (unread unwritten : Bool) (found : HeldFault) (answer : Result T AnswerFault) → auth ≡ audit_args.auth.items → sessions ≡ audit_args.sessions.items
+    → IsFaultOfClients auth sessions found → IsErrAnd answer (λ fault. fault ≡ Cluster found) → IfErr answer (λ fault. StopsAuditArgs audit_args fault input unread unwritten bytes bytes)
+bad_clients audit_args auth sessions input bytes unread unwritten found (Ok x) list others why reported = tt
+bad_clients audit_args auth sessions input bytes unread unwritten found (Err fault) list others why reported =
+    let these : IsFaultOfClients audit_args.auth.items audit_args.sessions.items found =
+    subst (λ (a : List ℕ). IsFaultOfClients a audit_args.sessions.items found) list (subst (λ (s : List ℕ). IsFaultOfClients auth s found) others why) in
+    inr (inr (inl (found, reported, these)), unchanged bytes)
+
+-- memory was missing
+pub forgotten : {T : Type 0} (audit_args : AuditArgs) (input bytes : Option (List ℕ)) (unread unwritten : Bool) (answer : Result T AnswerFault) → IsErrAnd answer (λ fault. fault ≡ NoMemory)
+    → IfErr answer (λ fault. StopsAuditArgs audit_args fault input unread unwritten bytes bytes)
+forgotten audit_args input bytes unread unwritten (Ok x) reported = tt
+forgotten audit_args input bytes unread unwritten (Err fault) reported = inr (inr (inr (inr reported)), unchanged bytes)
+
+-- a write failed
+pub unwritten_audit : {T : Type 0} (audit_args : AuditArgs) (input old new : Option (List ℕ)) (unread unwritten : Bool) (answer : Result T AnswerFault) → IfErr answer (λ fault. (fault ≡ WriteFailed) × IsTrue unwritten)
+    → IfErr answer (λ fault. StopsAuditArgs audit_args fault input unread unwritten old new)
+unwritten_audit audit_args input old new unread unwritten (Ok x) why = tt
+unwritten_audit audit_args input old new unread unwritten (Err fault) why = inl why
 
 module _ (audit_args : AuditArgs) (known : Roster) (names : List (List ℕ)) (given : Option (List ℕ)) (are : AreClientsOf audit_args known) (named : AreFsNames known.entities names) (is_given : IsFsIf audit_args.fs given) where
   -- none is given of several file systems, or memory was missing

@@ -14,15 +14,15 @@ const CUT: &str = "...";
 /// Writes the line of the text that has the place, or the part of it next to the place where it is long, and a caret below the byte at
 /// the place. Without memory for that nothing is written.
 pub(crate) fn point_at(alloc: Global, text: &[u8], at: usize, faults: &mut impl Write) {
-    if let Ok((line, blanks)) = pointed(alloc, text, at) {
+    let mut line = String::new(alloc);
+    let mut blanks = String::new(alloc);
+    if show(&mut line, &mut blanks, text, at).is_ok() {
         let _ = writeln!(faults, "  {line}\n  {blanks}^");
     }
 }
 
-// What is shown of the text, a column for each byte, and a blank for each of them before the place.
-fn pointed(alloc: Global, text: &[u8], at: usize) -> Result<(String, String), AllocError> {
-    let mut line = String::new(alloc);
-    let mut blanks = String::new(alloc);
+// Appends what is shown of the text, a column for each byte, and a blank for each of them before the place.
+fn show(line: &mut String, blanks: &mut String, text: &[u8], at: usize) -> Result<(), AllocError> {
     let start = at.saturating_sub(BEFORE);
     let end = text.len().min(at.saturating_add(BEHIND));
     if start > 0 {
@@ -36,7 +36,7 @@ fn pointed(alloc: Global, text: &[u8], at: usize) -> Result<(String, String), Al
                 blanks.clear();
                 continue;
             }
-            b'\n' => return Ok((line, blanks)),
+            b'\n' => return Ok(()),
             // No other byte takes one column on each terminal, and moves nothing there.
             byte @ b' '..=b'~' => line.push(char::from(byte))?,
             _ => line.push('?')?,
@@ -48,5 +48,5 @@ fn pointed(alloc: Global, text: &[u8], at: usize) -> Result<(String, String), Al
     if end < text.len() {
         line.push_str(CUT)?;
     }
-    Ok((line, blanks))
+    Ok(())
 }

@@ -3,13 +3,33 @@ use Rattle.ceph_input.specs.Dump.{dump}
 use Rattle.ceph_input.specs.FsNames.{fs_among}
 use Rattle.texts.specs.Watched.{has_failed, inner_of}
 use Rattle.cli_queries.specs.Fault.{IsFaultOfNames}
-use Rattle.cli_queries.proofs.Audits.{are_named, are_of, audit_reported, bad_fs, several_named, tree_refused}
+use Rattle.cli_queries.proofs.Audits.{are_named, are_of, audit_reported, bad_clients, bad_fs, forgotten, several_named, tree_refused, unwritten_audit}
 use Rattle.cli_queries.proofs.audit_args.audit.Goals as goal
 
 pub returns-in_err-given-clause-err : goal.returns-in_err-given-clause-err
 returns-in_err-given-clause-err g c =
     bad_fs c.args.audit_args.now (g.R.Read.remaining (inner_of c.args.reader.now)) (g.W.Write.contents (inner_of c.args.writer.now)) (has_failed c.args.reader.now) (has_failed c.args.writer.now) c.in_err-given.field-0.0 c.from_residual.result
     c.in_err-given.ensures c.from_residual.ensures.1
+
+pub returns-in_err-clients-clause-err : goal.returns-in_err-clients-clause-err
+returns-in_err-clients-clause-err g c =
+    bad_clients c.args.audit_args.now c.as_slice.result.now c.as_slice-2.result.now (g.R.Read.remaining (inner_of c.args.reader.now)) (g.W.Write.contents (inner_of c.args.writer.now)) (has_failed c.args.reader.now) (has_failed c.args.writer.now)
+    c.in_err-clients.field-0.0 c.from_residual-in_err-clients.result c.as_slice.ensures.value c.as_slice-2.ensures.value c.in_err-clients.ensures.err c.from_residual-in_err-clients.ensures.1
+
+pub returns-in_err-audit_args-clause-err : goal.returns-in_err-audit_args-clause-err
+returns-in_err-audit_args-clause-err g c =
+    forgotten c.args.audit_args.now (g.R.Read.remaining (inner_of c.args.reader.now)) (g.W.Write.contents (inner_of c.args.writer.now)) (has_failed c.args.reader.now) (has_failed c.args.writer.now)
+    c.from_residual-in_err-audit_args.result c.from_residual-in_err-audit_args.ensures.1
+
+pub returns-in_err-report-clause-err : goal.returns-in_err-report-clause-err
+returns-in_err-report-clause-err g c =
+    forgotten c.args.audit_args.now (g.R.Read.remaining (inner_of c.args.reader.now)) (g.W.Write.contents (inner_of c.args.writer.now)) (has_failed c.read_tree.new.reader) (has_failed c.args.writer.now)
+    c.from_residual-in_err-report.result c.from_residual-in_err-report.ensures.1
+
+pub returns-clause-err : goal.returns-clause-err
+returns-clause-err g c =
+    unwritten_audit c.args.audit_args.now (g.R.Read.remaining (inner_of c.args.reader.now)) (g.W.Write.contents (inner_of c.args.writer.now)) (g.W.Write.contents (inner_of c.write_text.new.writer)) (has_failed c.read_tree.new.reader) (has_failed c.write_text.new.writer)
+    c.write_text.result c.write_text.ensures.err
 
 pub returns-in_err-fs-clause-err : goal.returns-in_err-fs-clause-err
 returns-in_err-fs-clause-err g c =
