@@ -34,7 +34,7 @@ use Rattle.cli_queries.specs.Answers.{AnswersGrants, AnswersLint, IsLintFor, Sto
 use Rattle.cli_queries.specs.declared.explain_args.Form.{Form}
 use Rattle.cli_queries.specs.declared.explain_args.Form.TheVariants as forms
 use Rattle.cli_queries.specs.ExplainArgs.{AnswersBy, IsAnswered, IsAnsweredBy}
-use Rattle.queries.specs.Remarks.{remarked_answer}
+use Rattle.queries.specs.Remarks.{remarked_answer, remarked_object}
 use Rattle.cli_queries.specs.Fault.{Tells, fault_of, form_fault_of, mds_fault_of}
 
 pub unchanged : (known : Option (List ℕ)) → Keeps known known
@@ -76,6 +76,18 @@ pub told_all : (Fine : Type 0) (form : Form) (v : Values) (q : Question) (old ne
 told_all Fine form v q old new lines (Ok status) more asks are done written =
     subst (λ (f : Form). (asked : Question) × AsksFor v asked × IsAnswered f v.grants.items asked status old new) (sym more) (q, asks, (done, subst (λ (text : List ℕ). Appends old new text) are written.1))
 told_all Fine form v q old new lines (Err fault) more asks are done written = tt
+
+-- the same by an object that says all of it
+pub told_object : (Fine : Type 0) (form : Form) (v : Values) (q : Question) (old new : Option (List ℕ)) (object : List ℕ) (answer : Result ℕ AnswerFault) → form ≡ forms.Object → AsksFor v q → object ≡ remarked_object v.grants.items q
+    → IfOk answer (λ status. status ≡ 0) → OnOk answer (Fine × Appends old new object) → IfOk answer (λ status. (asked : Question) × AsksFor v asked × IsAnswered form v.grants.items asked status old new)
+told_object Fine form v q old new object (Ok status) whole asks are done written =
+    subst (λ (f : Form). (asked : Question) × AsksFor v asked × IsAnswered f v.grants.items asked status old new) (sym whole) (q, asks, (done, subst (λ (text : List ℕ). Appends old new text) are written.1))
+told_object Fine form v q old new object (Err fault) whole asks are done written = tt
+
+-- a write failed, and nothing else
+pub text_unwritten : {T : Type 0} (v : Values) (old new : Option (List ℕ)) (failed : Bool) (answer : Result T AnswerFault) → IfErr answer (λ fault. (fault ≡ WriteFailed) × IsTrue failed) → IfErr answer (λ fault. StopsBefore (IsFaultIn v) fault failed old new)
+text_unwritten v old new failed (Ok x) why = tt
+text_unwritten v old new failed (Err fault) why = inl why
 
 -- ---- by the rules of a release
 

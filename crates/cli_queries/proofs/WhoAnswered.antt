@@ -1,20 +1,21 @@
 -- An auth list that was read, and what is told of it; or that is none, or names several file systems.
 use Rattle.std.proofs.Common.{◌≡◌, ◌≤◌, ℕ, Bool, List, ◌++◌, Option, None, Some, inl, inr, sym, ap, subst, ◌∙◌}
 use Rattle.std.specs.Io.KnownBytes.{Appends, Consumes, IsAtEnd}
-use Rattle.std.specs.Prelude.{Err, IfErr, IfOk, IfSome, IsErrAnd, Ok, OnOk, Result, length}
+use Rattle.std.specs.Prelude.{Err, IfErr, IfOk, IfSome, IsErrAnd, IsTrue, Ok, OnOk, Result, length}
 use Rattle.std.proofs.lemmas.List.{append-nil}
 use Rattle.ceph_input.specs.declared.auth_fault.AuthFault.{AuthFault}
 use Rattle.ceph_input.specs.declared.auth_fault.AuthFault.TheVariants as auths
 use Rattle.ceph_input.specs.Auth.{IsFaultOf, Named, auth_of}
 use Rattle.ceph_input.specs.FsNames.{AreFsNames, fs_among}
 use Rattle.cli_queries.specs.declared.fault.AnswerFault.{AnswerFault}
-use Rattle.cli_queries.specs.declared.fault.AnswerFault.TheVariants.{NoMemory}
+use Rattle.cli_queries.specs.declared.fault.AnswerFault.TheVariants.{NoMemory, WriteFailed}
 use Rattle.cli_queries.specs.declared.who_args.WhoArgs.{WhoArgs}
-use Rattle.cli_queries.specs.Fault.{IsFaultOfNames, auth_fault_of}
+use Rattle.cli_queries.specs.Fault.{IsFaultOfNames, auth_fault_of, fault_of}
 use Rattle.texts.specs.ScriptLines.{longest_script}
 use Rattle.queries.specs.declared.attempt.Attempt.{Attempt}
 use Rattle.queries.specs.declared.clients.WhoAnswer.{WhoAnswer}
-use Rattle.queries.specs.Attempts.{IsAttempt, wanted_by}
+use Rattle.queries.specs.declared.fault.QuestionFault.{QuestionFault}
+use Rattle.queries.specs.Attempts.{IsAttempt, IsFaultOfAttempt, wanted_by}
 use Rattle.queries.specs.Clients.{AnswersWho}
 use Rattle.cli_queries.specs.FileSystems.{AreNamedIn}
 use Rattle.cli_queries.specs.Logging.{status_of}
@@ -27,6 +28,18 @@ pub all_of : (P : List ℕ → Type 0) (input left : Option (List ℕ)) (all : L
 all_of P None left all taken end holds = tt
 all_of P (Some xs) None all taken end holds = absurd taken
 all_of P (Some xs) (Some ys) all taken end holds = subst P (sym (taken ∙ ap (λ l. all ++ l) end ∙ append-nil all)) holds
+
+-- the values ask nothing
+pub attempt_refused : {T : Type 0} (who_args : WhoArgs) (input known : Option (List ℕ)) (unread unwritten : Bool) (found : QuestionFault) (answer : Result T AnswerFault) → IsFaultOfAttempt who_args.values found
+    → IsErrAnd answer (λ fault. fault ≡ fault_of found) → IfErr answer (λ fault. StopsWhoArgs who_args fault input unread unwritten known known)
+attempt_refused who_args input known unread unwritten found (Ok x) why reported = tt
+attempt_refused who_args input known unread unwritten found (Err fault) why reported = inr (inl (found, reported, why), unchanged known)
+
+-- a write failed
+pub unwritten_who : {T : Type 0} (who_args : WhoArgs) (input old new : Option (List ℕ)) (unread unwritten : Bool) (answer : Result T AnswerFault) → IfErr answer (λ fault. (fault ≡ WriteFailed) × IsTrue unwritten)
+    → IfErr answer (λ fault. StopsWhoArgs who_args fault input unread unwritten old new)
+unwritten_who who_args input old new unread unwritten (Ok x) why = tt
+unwritten_who who_args input old new unread unwritten (Err fault) why = inl why
 
 -- the text that was read to its end
 module _ (who_args : WhoArgs) (input left : Option (List ℕ)) (auth : List ℕ) (taken : Consumes input left auth) (end : IsAtEnd left) where

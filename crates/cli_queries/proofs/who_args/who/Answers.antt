@@ -5,8 +5,18 @@ use Rattle.ceph_input.specs.Auth.{IsFaultOf, auth_of}
 use Rattle.ceph_input.specs.FsNames.{fs_among}
 use Rattle.texts.specs.Watched.{has_failed, inner_of}
 use Rattle.cli_queries.specs.Fault.{IsFaultOfNames}
-use Rattle.cli_queries.proofs.WhoAnswered.{list_refused, names_kept, names_refused, no_memory_left, told}
+use Rattle.cli_queries.proofs.WhoAnswered.{attempt_refused, list_refused, names_kept, names_refused, no_memory_left, told, unwritten_who}
 use Rattle.cli_queries.proofs.who_args.who.Goals as goal
+
+pub returns-in_err-attempt-clause-err : goal.returns-in_err-attempt-clause-err
+returns-in_err-attempt-clause-err g c =
+    attempt_refused c.args.who_args.now (g.R.Read.remaining (inner_of c.args.reader.now)) (g.W.Write.contents (inner_of c.args.writer.now)) (has_failed c.args.reader.now) (has_failed c.args.writer.now)
+    c.in_err-attempt.field-0.0 c.from_residual.result c.in_err-attempt.ensures.err c.from_residual.ensures.1
+
+pub returns-clause-err : goal.returns-clause-err
+returns-clause-err g c =
+    unwritten_who c.args.who_args.now (g.R.Read.remaining (inner_of c.args.reader.now)) (g.W.Write.contents (inner_of c.args.writer.now)) (g.W.Write.contents (inner_of c.write_text.new.writer)) (has_failed c.read_script.new.reader) (has_failed c.write_text.new.writer)
+    c.write_text.result c.write_text.ensures.err
 
 pub returns-in_err-list-clause-err : goal.returns-in_err-list-clause-err
 returns-in_err-list-clause-err g c =
