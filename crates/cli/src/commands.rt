@@ -129,10 +129,15 @@ fn answer<T: Threads + Wait + Sync, R: Read, W: Write>(
         }
         Invocation::Who(who_args) => who(alloc, who_args, reader, writer),
         Invocation::Audit(audit_args) => audit(alloc, audit_args, reader, writer),
-        Invocation::Log { fs, only_denied } => {
+        Invocation::Log {
+            fs,
+            only_denied,
+            mds,
+        } => {
             let scope = LogScope {
                 fs: fs.as_slice(),
                 only_denied: *only_denied,
+                release: *mds,
             };
             log(alloc, scope, reader, writer)
         }

@@ -78,7 +78,11 @@ fn value_of(invocation: &Invocation, option: Opt) -> &[u8] {
         Invocation::Explain(explain_args) => asked_value(&explain_args.values, option),
         Invocation::Who(who_args) => attempted_value(&who_args.values, option),
         Invocation::Audit(audit_args) => value_or_none(&audit_args.fs),
-        Invocation::Log { fs, only_denied: _ } => fs.as_slice(),
+        Invocation::Log {
+            fs,
+            only_denied: _,
+            mds: _,
+        } => fs.as_slice(),
         _ => b"",
     }
 }

@@ -111,6 +111,8 @@ pub enum Invocation {
         fs: Vec<u8>,
         /// Whether what is allowed is left out.
         only_denied: bool,
+        /// The release by whose rules alone it is; none is this server.
+        mds: Option<Release>,
     },
     /// The transcript of a script.
     Run {
@@ -149,6 +151,7 @@ impl Drop for Invocation {
             Invocation::Log {
                 fs: _,
                 only_denied: _,
+                mds: _,
             } => {}
             Invocation::Run { more: _ } => {}
             Invocation::Serve { more: _ } => {}

@@ -67,6 +67,7 @@ impl Matched<'_, '_> {
             LOG => Ok(Invocation::Log {
                 fs: self.option(Opt::Fs)?,
                 only_denied: self.says(ONLY_DENIED),
+                mds: self.mds()?,
             }),
             _ => self.on_script(name),
         }

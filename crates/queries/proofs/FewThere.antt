@@ -28,11 +28,11 @@ use Rattle.queries.specs.declared.question.Question.{Question}
 use Rattle.queries.specs.Question.{verdict_on}
 use Rattle.queries.specs.Remarks.{asked_of, mds_asked, others_on}
 
-below : (p : Grant → Bool) (grants : List Grant) (i : ℕ) → position p grants ≡ Some i → i < length grants
+pub below : (p : Grant → Bool) (grants : List Grant) (i : ℕ) → position p grants ≡ Some i → i < length grants
 below p [] i at = absurd (let e : None ≡ Some i = at in cc)
 below p (g ∷ grants) i at = (position-Some p (g ∷ grants) i g at).0
 
-small_there : (switches : Switches) (q : MdsQuestion) (grants : List Grant) → length grants < 2 ^ 64 → HasMdsGrant (verdict_of switches q grants)
+pub small_there : (switches : Switches) (q : MdsQuestion) (grants : List Grant) → length grants < 2 ^ 64 → HasMdsGrant (verdict_of switches q grants)
 small_there switches q grants few =
     cond_both (may_mount switches q.fs grants) (verdict_at (position (allows switches q) grants) (position (may_allow switches q) grants) (first_failures switches q grants)) mds.CannotMount HasMdsGrant
     (λ may. by_places (position (allows switches q) grants) (position (may_allow switches q) grants) refl refl) (λ other. tt)

@@ -219,6 +219,6 @@ all_asked check mask is =
     let first : List Access = asked_if bits 2 Write ++ second in
     All-append HasNumber (asked_if bits 1 Read) first (asked bits 1 Read tt)
     (All-append HasNumber (asked_if bits 2 Write) second (asked bits 2 Write tt)
-    (All-append HasNumber (asked_if bits 16 (Chown mask.uid)) third (asked bits 16 (Chown mask.uid) is.uid.small)
-    (All-append HasNumber (asked_if bits 32 (Chgrp mask.gid)) fourth (asked bits 32 (Chgrp mask.gid) is.gid.small)
+    (All-append HasNumber (asked_if bits 16 (Chown mask.uid)) third (asked bits 16 (Chown mask.uid) is.numbers.uid.small)
+    (All-append HasNumber (asked_if bits 32 (Chgrp mask.gid)) fourth (asked bits 32 (Chgrp mask.gid) is.numbers.gid.small)
     (All-append HasNumber (asked_if bits 64 SetVxattr) last (asked bits 64 SetVxattr tt) (asked bits 128 Snapshot tt)))))

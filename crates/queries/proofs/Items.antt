@@ -1,6 +1,6 @@
 -- What is told of a log is one thing after the other, and its text tells which.
 use Rattle.std.proofs.Common.{◌≡◌, ◌⊎◌, inl, inr, ℕ, ◌+◌, ◌<◌, ◌≤◌, ◌^◌, ◌%◌, Bool, true, false, Option, Some, None, List, [], ◌∷◌, ◌++◌, drop, length, refl}
-use Rattle.std.proofs.Common.{sym, ap, ◌∙◌, append_assoc, arith}
+use Rattle.std.proofs.Common.{sym, ap, subst, ◌∙◌, append_assoc, arith}
 use Rattle.std.specs.Prelude.{codes, All, IfSome, bytes_eq, is_some, ◌==◌, ◌&&◌, if◌then◌else◌}
 use Rattle.std.specs.Fmt.{decimal}
 use Rattle.std.specs.List.{AllZip, flat_map, list_all}
@@ -10,59 +10,95 @@ use Rattle.std.proofs.lemmas.List.{append-nil, append_cancel_left}
 use Rattle.std.proofs.lemmas.List.Concat.{flat_map-append}
 use Rattle.std.proofs.lemmas.List.Elements.{All-append, All-cons, All-head, All-nil, All-tail}
 use Rattle.capspec.specs.declared.fault.SpecFault.{SpecFault}
+use Rattle.capspec.specs.declared.fault.SpecFaultKind.{SpecFaultKind}
+use Rattle.capspec.specs.declared.fault.SpecFaultKind.TheVariants as kinds
 use Rattle.capgrant.specs.declared.access.Access.{Access}
+use Rattle.capgrant.specs.declared.access.Access.TheVariants.{Chgrp, Chmod, Chown, Read, SetVxattr, Snapshot, Write}
 use Rattle.capgrant.specs.declared.answer.Verdict.{Verdict}
 use Rattle.capgrant.specs.declared.answer.Verdict.TheVariants.{Allowed, Denied}
+use Rattle.capgrant.specs.Access.{access_word}
 use Rattle.capgrant.specs.Question.{Question as Asked}
+use Rattle.capgrant.specs.Verdict.{is_allowed}
 use Rattle.policy_analysis.specs.Left.{left_to_client}
 use Rattle.release_rules.specs.declared.beside.Others.{Others}
+use Rattle.release_rules.specs.declared.grant.Grant.{Grant}
+use Rattle.release_rules.specs.declared.release.Release.{Release}
+use Rattle.release_rules.specs.declared.release.Release.TheVariants.{Pacific, Reef, Tentacle}
+use Rattle.release_rules.specs.declared.verdict.Verdict.{Verdict as MdsVerdict}
+use Rattle.release_rules.specs.declared.verdict.Verdict.TheVariants as mds
+use Rattle.release_rules.specs.Clients.{client_refuses}
+use Rattle.release_rules.specs.Failing.{may_allow_somewhere}
+use Rattle.release_rules.specs.Releases.{switches_of, version_of}
+use Rattle.release_rules.specs.Verdicts.{is_allowed as mds_allows}
+use Rattle.release_rules.proofs.FewRead.{AreFew, few_read, near_read}
 use Rattle.texts.specs.Lines.{HasNumber}
 use Rattle.texts.specs.Quoting.{is_plain, quoted}
-use Rattle.texts.specs.Mds.{beside_text}
+use Rattle.texts.specs.declared.mds_asked.MdsAccess.{MdsAccess}
+use Rattle.texts.specs.declared.mds_asked.MdsAccess.TheVariants.{Mask as AllOf, One}
+use Rattle.texts.specs.Explaining.{path_text, reason_text}
+use Rattle.texts.specs.Mds.{beside_text, mds_line, mds_text, others_lines}
+use Rattle.texts.specs.MdsAsked.{asked_there}
+use Rattle.texts.specs.MdsTold.{HasSmallNumbers}
+use Rattle.texts.specs.Remarks.{left_line}
 use Rattle.texts.specs.Standing.{fault_word}
 use Rattle.texts.specs.Remarked.{HasNumbers}
 use Rattle.texts.proofs.Answered.{number_and, number_to, plain_number}
 use Rattle.texts.proofs.Beside.{one_beside_to}
 use Rattle.texts.proofs.Clients.{has_word, kind_of}
+use Rattle.texts.proofs.MdsAnswered.{one_mds_line_to}
+use Rattle.texts.proofs.MdsDistinct.{asked_of as release_named, has_version}
 use Rattle.texts.proofs.Quoted.{bare, bare_to, before_a_line_feed, first_byte}
 use Rattle.texts.proofs.Remarked.{IsOther}
+use Rattle.queries.specs.declared.any_path.AnyPath.{AnyPath}
 use Rattle.queries.specs.declared.fault.QuestionFault.{QuestionFault}
 use Rattle.queries.specs.declared.fault.QuestionFault.TheVariants.{Grants as BadGrants}
 use Rattle.queries.specs.declared.fault.QuestionFault.TheVariants.{BadValue, NoMemory}
+use Rattle.queries.specs.declared.mask.Mask.{Mask}
+use Rattle.queries.specs.declared.mds.MdsAnswer.{MdsAnswer}
+use Rattle.queries.specs.declared.mds.MdsAsking.{MdsAsking}
+use Rattle.queries.specs.declared.mds.NotRead.{NotRead}
 use Rattle.queries.specs.declared.options.Opt.{Opt}
 use Rattle.queries.specs.declared.options.Opt.TheVariants.{Addr, Fs, Gid, Grants, Group, Groups, Mode, Owner, Path, Uid}
 use Rattle.queries.specs.declared.options.Opt.TheVariants.{Access as AccessWord}
+use Rattle.queries.specs.declared.question.Asking.{Asking}
 use Rattle.queries.specs.declared.question.Question.{Question}
 use Rattle.queries.specs.declared.question.Values.{Values}
 use Rattle.queries.specs.Options.{option_name}
-use Rattle.queries.specs.Question.{AsksFor, IsFaultIn, verdict_on}
+use Rattle.queries.specs.Mds.{answer_by, mds_question, mounts, not_read_text}
+use Rattle.queries.specs.Question.{AsksFor, IsFaultIn, IsFaultOfAsking, verdict_on}
 use Rattle.queries.specs.Remarks.{asked_of, others_on, remarked_answer}
 use Rattle.texts.specs.ScriptLines.{lines}
 use Rattle.queries.specs.Checks.{CheckTexts, HeadTexts, check_of, head_in}
 use Rattle.queries.specs.Before.{BeforeTexts, GivenTexts, given_of, known_of, said_before}
-use Rattle.queries.specs.AnyPath.{any_path_of, any_path_text}
+use Rattle.queries.specs.AnyPath.{HasSmall, any_path_by, any_path_of, any_path_text, is_anywhere}
 use Rattle.queries.specs.Items.{HasLines, IsTellable, Reported, SameOfLine, SameReported, lines_of, reported_in, reported_lines}
-use Rattle.queries.specs.Items.Reported.{answered, bad, formless, pathless, refused, unknown}
+use Rattle.queries.specs.Items.Reported.{answered, bad, formless, judged_by, not_read, pathless, refused, unknown}
 use Rattle.queries.specs.Masks.{accesses_of}
-use Rattle.queries.specs.Reported.{AreReported, AreValues, IsAnswered, IsFaulty, IsReportOf, IsReported, Says, SaysBehind, SaysFault, SaysIf, Scope, State}
-use Rattle.queries.specs.Reported.{answer_lines, passed_line, is_allowed_there, path_or_root, pathless_line, told_line, with_access}
+use Rattle.queries.specs.Reported.{AreReported, AreValues, IsAnswered, IsAnsweredBy, IsFaulty, IsFaultyBy, IsReportOf, IsReported, IsUnreadBy, Says, SaysBehind, SaysBy, SaysFault, SaysIf}
+use Rattle.queries.specs.Reported.{Scope, State, answer_lines, asking_all, line_by, passed_line, path_or_root, pathless_line, told_by, told_line, told_pathless, with_access}
 use Rattle.queries.specs.Reported.AreReported.{no_more, one_more}
 use Rattle.queries.specs.Reported.IsReported.{checked, kept, passed_over}
 use Rattle.queries.proofs.LogLines.{few_passed, next_number}
-use Rattle.queries.proofs.AnyPaths.{has_small, one_any_path}
-use Rattle.queries.proofs.FewThere.{are_beside}
+use Rattle.queries.proofs.AnyPaths.{has_small, has_small_by, one_any_path}
+use Rattle.queries.proofs.FewThere.{are_beside, small_there}
 use Rattle.queries.proofs.Fitting.{AreShort, HasFew, all_asked, few_lines, fits, near_fault, short_check, short_grants, short_head, short_lines}
 
 -- ---- how the lines begin
 
+-- all that a mask asks for
+abbrev all_of : Mask → MdsAccess
+all_of mask = AllOf mask.bits mask.uid mask.gid
+
 -- behind the number
 abbrev said : Reported → List ℕ
 said (answered grants q) = remarked_answer grants q
-said (pathless q) = codes "no path in this line: " ++ any_path_text q.access (any_path_of q)
+said (judged_by mask path verdict) = mds_text (all_of mask) path verdict None
+said (pathless access any) = codes "no path in this line: " ++ any_path_text access any
 said formless = codes "a check that is not as an MDS writes it\n"
 said (unknown mask) = codes "unknown mask " ++ (quoted mask ++ codes "\n")
 said (refused fault) = codes "grants: " ++ (fault_word fault.kind ++ (codes " at " ++ (decimal fault.at ++ codes "\n")))
 said (bad option) = codes "bad value of --" ++ (option_name option ++ codes "\n")
+said (not_read found) = codes "grants: " ++ (not_read_text found ++ codes "\n")
 
 abbrev behind_number : ℕ → List ℕ → List ℕ
 behind_number number more = decimal number ++ 58 ∷ 32 ∷ more
@@ -72,12 +108,14 @@ bare_number number small = let plain = plain_number number small in rw plain ref
 
 laid_out : (number : ℕ) (reported : Reported) (s : List ℕ) → number < 2 ^ 64 → lines_of number reported ++ s ≡ behind_number number (said reported ++ s)
 laid_out number (answered grants q) s small = append_assoc (decimal number) (codes ": " ++ remarked_answer grants q) s
-laid_out number (pathless q) s small = append_assoc (decimal number) (codes ": " ++ said (pathless q)) s
+laid_out number (judged_by mask path verdict) s small = append_assoc (decimal number) (codes ": " ++ said (judged_by mask path verdict)) s
+laid_out number (pathless access any) s small = append_assoc (decimal number) (codes ": " ++ said (pathless access any)) s
 laid_out number formless s small = append_assoc (decimal number) (codes ": " ++ said formless) s
 laid_out number (unknown mask) s small = append_assoc (decimal number) (codes ": " ++ said (unknown mask)) s
 laid_out number (refused fault) s small =
     ap (λ (digits : List ℕ). (digits ++ (codes ": " ++ said (refused fault))) ++ s) (bare_number number small) ∙ append_assoc (decimal number) (codes ": " ++ said (refused fault)) s
 laid_out number (bad option) s small = append_assoc (decimal number) (codes ": " ++ said (bad option)) s
+laid_out number (not_read found) s small = append_assoc (decimal number) (codes ": " ++ said (not_read found)) s
 
 low_number : (number : ℕ) → number < 2 ^ 64 → (s : List ℕ) → first_byte (decimal number ++ s) < 58
 low_number =
@@ -97,28 +135,84 @@ others (x ∷ xs) passed reported =
 
 abbrev tag : Reported → ℕ
 tag (answered grants q) = 0
-tag (pathless q) = 5
 tag formless = 1
 tag (unknown mask) = 2
 tag (refused fault) = 3
 tag (bad option) = 4
+tag (pathless access any) = 5
+tag (judged_by mask path verdict) = 6
+tag (not_read found) = 7
+
+-- the word of what is asked for begins there with an m: it is a mask
+abbrev of_mask : List ℕ → ℕ
+of_mask text = if first_byte text == 109 then 6 else 0
+
+-- grants that a release does not read, or other faults of theirs
+abbrev of_grants : List ℕ → ℕ
+of_grants text = if first_byte text == 110 then 7 else 3
+
+abbrev of_verdict : List ℕ → ℕ
+of_verdict text = if first_byte text == 97 then of_mask (drop 8 text) else (if first_byte (drop 2 text) == 112 then 6 else of_mask (drop 7 text))
 
 abbrev tag_at : List ℕ → ℕ
 tag_at text =
     let byte : ℕ = first_byte text in
-    if byte == 117 then 2 else (if byte == 103 then 3 else (if byte == 98 then 4 else (if byte == 110 then 5 else (if first_byte (drop 1 text) == 32 then 1 else 0))))
+    if byte == 117 then 2 else (if byte == 103 then of_grants (drop 8 text) else (if byte == 98 then 4 else (if byte == 110 then 5 else (if first_byte (drop 1 text) == 32 then 1 else of_verdict text))))
+
+no_mask : (a : Access) (text : List ℕ) → of_mask (access_word a ++ text) ≡ 0
+no_mask Read text = refl
+no_mask Write text = refl
+no_mask SetVxattr text = refl
+no_mask Snapshot text = refl
+no_mask Chmod text = refl
+no_mask (Chown uid) text = refl
+no_mask (Chgrp gid) text = refl
+
+no_release : (kind : SpecFaultKind) (text : List ℕ) → of_grants (fault_word kind ++ text) ≡ 3
+no_release kinds.Empty text = refl
+no_release kinds.NotAllow text = refl
+no_release kinds.BadFlags text = refl
+no_release kinds.BadItem text = refl
+no_release kinds.Twice text = refl
+no_release kinds.BadNumber text = refl
+no_release kinds.OpenQuote text = refl
+no_release kinds.GidsWithoutUid text = refl
+no_release kinds.LeftOut text = refl
+no_release kinds.TooMany text = refl
+no_release kinds.BadPath text = refl
+no_release kinds.NoMemory text = refl
+
+-- the word behind a front, with what follows
+behind_front : (word a b c s : List ℕ) → (((word ++ a) ++ b) ++ c) ++ s ≡ word ++ (a ++ (b ++ (c ++ s)))
+behind_front word a b c s = simp append_assoc
 
 of_answer : (q : Asked) (v : Verdict) (left : Option ℕ) (beside : Others) (s : List ℕ) → tag_at (beside_text q v left beside ++ s) ≡ 0
-of_answer q (Allowed grant) left beside s = refl
-of_answer q (Denied rules) left beside s = refl
+of_answer q (Allowed grant) left beside s =
+    let path : List ℕ = quoted (path_text q.path) ++ reason_text (Allowed grant) in
+    let more : List ℕ = codes "\n" ++ (left_line q.attr left ++ others_lines [] beside) in
+    ap of_mask (behind_front (access_word q.access) (codes " ") path more s) ∙ no_mask q.access (codes " " ++ (path ++ (more ++ s)))
+of_answer q (Denied rules) left beside s =
+    let path : List ℕ = quoted (path_text q.path) ++ reason_text (Denied rules) in
+    let more : List ℕ = codes "\n" ++ (left_line q.attr left ++ others_lines [] beside) in
+    ap of_mask (behind_front (access_word q.access) (codes " ") path more s) ∙ no_mask q.access (codes " " ++ (path ++ (more ++ s)))
+
+of_judged : (mask : Mask) (path : List (List ℕ)) (verdict : MdsVerdict) (s : List ℕ) → tag_at (said (judged_by mask path verdict) ++ s) ≡ 6
+of_judged mask path mds.CannotMount s = refl
+of_judged mask path (mds.Allowed grant) s = refl
+of_judged mask path (mds.DependsOnAddress grant) s = refl
+of_judged mask path (mds.Denied rules) s = refl
 
 has_tag : (reported : Reported) (s : List ℕ) → tag_at (said reported ++ s) ≡ tag reported
 has_tag (answered grants q) s = of_answer (asked_of q) (verdict_on q) (left_to_client (asked_of q) q.grants) (others_on grants q) s
-has_tag (pathless q) s = refl
+has_tag (judged_by mask path verdict) s = of_judged mask path verdict s
+has_tag (pathless access any) s = refl
 has_tag formless s = refl
 has_tag (unknown mask) s = refl
-has_tag (refused fault) s = refl
+has_tag (refused fault) s =
+    let more : List ℕ = codes " at " ++ (decimal fault.at ++ codes "\n") in
+    ap of_grants (append_assoc (fault_word fault.kind) more s) ∙ no_release fault.kind (more ++ s)
 has_tag (bad option) s = refl
+has_tag (not_read found) s = refl
 
 -- ---- options
 
@@ -164,17 +258,53 @@ one_option o p s t same =
     (sym (append_assoc (option_name o) (codes "\n") s) ∙ append_cancel_left (codes "bad value of --") _ _ same ∙ append_assoc (option_name p) (codes "\n") t) in
     (sym (has_name o).0 ∙ ap option_of both.0 ∙ (has_name p).0, both.1)
 
+one_release : (a b : Release) (s t : List ℕ) → version_of a ++ 32 ∷ s ≡ version_of b ++ 32 ∷ t → (a ≡ b) × (s ≡ t)
+one_release a b s t same =
+    let words = bare (version_of a) (version_of b) s t (plain_version a) (plain_version b) same in
+    (sym (has_version a) ∙ ap release_named words.0 ∙ has_version b, words.1)
+  where
+    plain_version : (release : Release) → list_all is_plain (version_of release) ≡ true
+    plain_version Pacific = refl
+    plain_version Reef = refl
+    plain_version Tentacle = refl
+
+one_unread : (f g : NotRead) (s t : List ℕ) → f.at < 2 ^ 64 → g.at < 2 ^ 64 → said (not_read f) ++ s ≡ said (not_read g) ++ t → (f ≡ g) × (s ≡ t)
+one_unread f g s t small also same =
+    let releases = one_release f.release g.release _ _ (append_cancel_left (codes "grants: not read by Ceph ") _ _ (sym (placed f s) ∙ same ∙ placed g t)) in
+    let number = number_to 10 f.at g.at s t refl small also (append_cancel_left (codes "at ") _ _ releases.1) in
+    let release : f.release ≡ g.release = releases.0 in
+    let place : f.at ≡ g.at = number.0 in
+    (λ i. record { release = release i; at = place i }, number.1)
+  where
+    placed : (f : NotRead) (s : List ℕ) → said (not_read f) ++ s ≡ codes "grants: not read by Ceph " ++ (version_of f.release ++ 32 ∷ (codes "at " ++ (decimal f.at ++ 10 ∷ s)))
+    placed f s = laid (version_of f.release) (decimal f.at) s
+      where
+        laid : (version at s : List ℕ) → (codes "grants: " ++ ((codes "not read by Ceph " ++ (version ++ (codes " at " ++ at))) ++ codes "\n")) ++ s ≡ codes "grants: not read by Ceph " ++ (version ++ 32 ∷ (codes "at " ++ (at ++ 10 ∷ s)))
+        laid version at s = simp append_assoc
+
+one_judged : (m n : Mask) (p q : List (List ℕ)) (v w : MdsVerdict) (s t : List ℕ) → IsTellable (judged_by m p v) → IsTellable (judged_by n q w) → said (judged_by m p v) ++ s ≡ said (judged_by n q w) ++ t
+    → SameReported (judged_by m p v) (judged_by n q w) × (s ≡ t)
+one_judged m n p q v w s t small also same =
+    let line = one_mds_line_to (all_of m) (all_of n) p q v w s t small.0 also.0 small.1 also.1
+    (sym (append_assoc (mds_line (all_of m) p v) (codes "\n") s) ∙ same ∙ append_assoc (mds_line (all_of n) q w) (codes "\n") t) in
+    ((ap mask_of line.0, line.1, line.2), line.3)
+  where
+    mask_of : MdsAccess → Mask
+    mask_of (AllOf bits uid gid) = record { bits = bits; uid = uid; gid = gid }
+    mask_of access = record { bits = 0; uid = 0; gid = 0 }
+
 one_said : (x y : Reported) (s t : List ℕ) → IsTellable x → IsTellable y → IsOther s → IsOther t → said x ++ s ≡ said y ++ t → SameReported x y × (s ≡ t)
 one_said (answered grants q) (answered also r) s t p o low too same =
     one_beside_to (asked_of q) (asked_of r) (verdict_on q) (verdict_on r) (left_to_client (asked_of q) q.grants) (left_to_client (asked_of r) r.grants) (others_on grants q) (others_on also r) s t
     (are_beside grants q p.0 p.1) (are_beside also r o.0 o.1) low too same
-one_said (pathless q) (pathless r) s t p o low too same =
-    one_any_path q.access r.access (any_path_of q) (any_path_of r) s t p.access o.access (has_small q p) (has_small r o) (append_cancel_left (codes "no path in this line: ") _ _ same)
+one_said (judged_by m p v) (judged_by n q w) s t small also low too same = one_judged m n p q v w s t small also same
+one_said (pathless a x) (pathless b y) s t p o low too same = one_any_path a b x y s t p.0 o.0 p.1 o.1 (append_cancel_left (codes "no path in this line: ") _ _ same)
 one_said formless formless s t p o low too same = (tt, append_cancel_left (said formless) s t same)
 one_said (unknown mask) (unknown other) s t p o low too same =
     before_a_line_feed mask other s t (sym (append_assoc (quoted mask) (codes "\n") s) ∙ append_cancel_left (codes "unknown mask ") _ _ same ∙ append_assoc (quoted other) (codes "\n") t)
 one_said (refused fault) (refused other) s t p o low too same = one_fault fault other s t p o same
 one_said (bad option) (bad other) s t p o low too same = one_option option other s t same
+one_said (not_read found) (not_read other) s t p o low too same = one_unread found other s t p o same
 one_said x y s t p o low too same = absurd (let e : tag x ≡ tag y = sym (has_tag x s) ∙ ap tag_at same ∙ has_tag y t in omega (arith, e))
 
 one_thing : (x y : ℕ × Reported) (s t : List ℕ) → HasLines x → HasLines y → IsOther s → IsOther t → reported_lines x ++ s ≡ reported_lines y ++ t → SameOfLine x y × (s ≡ t)
@@ -221,14 +351,19 @@ module _ (number : ℕ) (small : number < 2 ^ 64) where
   one : (reported : Reported) (text : List ℕ) → IsTellable reported → text ≡ lines_of number reported → AreLines text
   one reported text fits is = ((number, reported) ∷ [], All-cons HasLines (number, reported) [] (small, fits) (All-nil HasLines), is ∙ sym (append-nil (lines_of number reported)))
 
+  -- unless it is left out
+  unless : (left : Bool) (reported : Reported) (text : List ℕ) → IsTellable reported → text ≡ lines_of number reported → AreLines (if left then [] else text)
+  unless left reported text fits is = cond_both left [] text AreLines (λ out. none [] refl) (λ told. one reported text fits is)
+
+  of_any : (only_denied : Bool) (access : MdsAccess) (any : AnyPath) → HasSmallNumbers access → HasSmall any → AreLines (told_pathless only_denied number access any)
+  of_any only_denied access any fits small = unless (only_denied && is_anywhere any) (pathless access any) (pathless_line number access any) (fits, small) refl
+
   of_access : (only_denied : Bool) (grants : List ℕ) (q : Question) (has_path : Bool) (access : Access) → length grants < 2 ^ 63 → HasNumbers (asked_of (with_access q access)) q.grants
       → AreLines (told_line only_denied has_path number grants q access)
   of_access only_denied grants q true access short fit =
-      cond_both (only_denied && is_allowed_there true (with_access q access)) [] (answer_lines number grants q access) AreLines (λ left. none [] refl)
-      (λ told. one (answered grants (with_access q access)) (answer_lines number grants q access) (fit, short) refl)
+      unless (only_denied && is_allowed (verdict_on (with_access q access))) (answered grants (with_access q access)) (answer_lines number grants q access) (fit, short) refl
   of_access only_denied grants q false access short fit =
-      cond_both (only_denied && is_allowed_there false (with_access q access)) [] (pathless_line number q access) AreLines (λ left. none [] refl)
-      (λ told. one (pathless (with_access q access)) (pathless_line number q access) fit refl)
+      of_any only_denied (One access) (any_path_of (with_access q access)) fit.access (has_small (with_access q access) fit)
 
   of_accesses : (v : Values) (only_denied : Bool) (grants : List ℕ) (q : Question) (has_path : Bool) → length grants < 2 ^ 63 → AsksFor v q → (accesses : List Access) → All HasNumber accesses
       → AreLines (flat_map (told_line only_denied has_path number grants q) accesses)
@@ -254,10 +389,51 @@ module _ (number : ℕ) (small : number < 2 ^ 64) where
   of_check only_denied given check text judged short (inl says) = one (unknown check.mask) text tt says.1
   of_check only_denied given check text judged short (inr says) = of_values only_denied given (path_or_root given.path) check says.0 text (is_some given.path) judged short says.1 says.2
 
+  -- by a release
+  of_release : (only_denied has_path : Bool) (release : Release) (grants : List Grant) (mask : Mask) (asking : Asking) (most : ℕ) → HasSmallNumbers (all_of mask) → length grants ≤ most → most < 2 ^ 64
+      → AreLines (told_by only_denied has_path number release grants (asking_all mask asking))
+  of_release only_denied true release grants mask asking most fits few small =
+      let a : MdsAsking = asking_all mask asking in
+      let answer : MdsAnswer = answer_by release a grants in
+      unless (only_denied && mds_allows answer.verdict) (judged_by mask asking.path answer.verdict) (line_by number a answer)
+      (fits, small_there (switches_of release) (mds_question asking (asked_there a.access)) grants (omega (arith, few, small))) (ap (λ (refused : Option ℕ). decimal number ++ (codes ": " ++ mds_text a.access asking.path answer.verdict refused)) (unrefused (mounts answer.verdict)))
+    where
+      unrefused : (b : Bool) → (if b && false then client_refuses (switches_of release) (mds_question asking (asked_there (all_of mask))) grants else None) ≡ None
+      unrefused true = refl
+      unrefused false = refl
+  of_release only_denied false release grants mask asking most fits few small =
+      let a : MdsAsking = asking_all mask asking in
+      of_any only_denied a.access (any_path_by release a grants) fits
+      (has_small_by (answer_by release a grants).verdict (may_allow_somewhere (switches_of release) (mds_question asking (asked_there a.access))) grants most few small
+      (small_there (switches_of release) (mds_question asking (asked_there a.access)) grants (omega (arith, few, small))))
+
+  of_values_by : (only_denied : Bool) (release : Release) (check : CheckTexts) (v : Values) (text : List ℕ) (has_path judged : Bool) → length check.grants < 2 ^ 63
+      → IsAnsweredBy number only_denied has_path release check v text judged ⊎ (IsFaultyBy number v text × (judged ≡ false)) → AreLines text
+  of_values_by only_denied release check v text has_path judged short (inl says) =
+      let few : length says.grants ≤ length check.grants + 1 = subst (AreFew (length check.grants + 1)) says.reads (few_read (switches_of release) check.grants) in
+      let reported = of_release only_denied has_path release says.grants says.mask says.asking (length check.grants + 1) (says.numbers.bits.small, says.numbers.uid.small, says.numbers.gid.small) few (omega (arith, short)) in
+      (reported.0, reported.1, says.more_is ∙ reported.2)
+  of_values_by only_denied release check v text has_path judged short (inr says) = of_fault_by says.0.fault says.0.first says.0.says
+    where
+      of_fault_by : (fault : QuestionFault) → IsFaultOfAsking v (codes "read") fault → SaysFault number fault text → AreLines text
+      of_fault_by (BadGrants fault) first told = absurd first
+      of_fault_by (BadValue option) first told = one (bad option) text tt told
+      of_fault_by NoMemory first told = absurd told
+
+  of_unread : (release : Release) (check : CheckTexts) (text : List ℕ) → length check.grants < 2 ^ 63 → IsUnreadBy number release check text → AreLines text
+  of_unread release check text short says = one (not_read says.found) text (omega (arith, short, near_read (switches_of release) check.grants (record { at = says.found.at }) says.is_fault.1)) says.says
+
+  of_check_by : (release : Option Release) (only_denied : Bool) (given : GivenTexts) (check : CheckTexts) (text : List ℕ) (judged : Bool) → length check.grants < 2 ^ 63
+      → SaysBy release number only_denied given check text judged → AreLines text
+  of_check_by None only_denied given check text judged short says = of_check only_denied given check text judged short says
+  of_check_by (Some release) only_denied given check text judged short (inl says) = one (unknown check.mask) text tt says.1
+  of_check_by (Some release) only_denied given check text judged short (inr (inl says)) = of_unread release check text short says.0
+  of_check_by (Some release) only_denied given check text judged short (inr (inr says)) = of_values_by only_denied release check says.0 text (is_some given.path) judged short says.2
+
   of_form : (scope : Scope) (name : Option (List ℕ)) (before : Option BeforeTexts) (check : Option CheckTexts) (text : List ℕ) (judged : Bool) → IfSome check (λ c. length c.grants < 2 ^ 63)
       → SaysIf number scope name before check text judged → AreLines text
   of_form scope name before None text judged short says = one formless text tt says.0
-  of_form scope name before (Some check) text judged short says = of_check scope.only_denied (given_of scope.fs name (known_of check before) check) check text judged short says
+  of_form scope name before (Some check) text judged short says = of_check_by scope.release scope.only_denied (given_of scope.fs name (known_of check before) check) check text judged short says
 
 -- the grants of a check in a line of a short log
 short_check_of : (most : ℕ) (text : List ℕ) → length text ≤ most → most < 2 ^ 63 → IfSome (check_of text) (λ c. length c.grants < 2 ^ 63)

@@ -11,10 +11,14 @@ abbrev pub is_mask : ℕ → Bool
 is_mask bits = nat_lt 0 bits && is_known bits
 
 -- the bits that a check has, and the numbers that may belong to them
-pub record IsMaskOf (check : CheckTexts) (mask : Mask) : Type 0 where
+pub record AreNumbersOf (check : CheckTexts) (mask : Mask) : Type 0 where
   pub bits : IsNumber check.mask mask.bits
   pub uid : IsNumber check.new_uid mask.uid
   pub gid : IsNumber check.new_gid mask.gid
+
+-- each of the bits has a meaning
+pub record IsMaskOf (check : CheckTexts) (mask : Mask) : Type 0 where
+  pub numbers : AreNumbersOf check mask
   pub known : IsTrue (is_mask mask.bits)
 
 -- what the bits ask for, one access for each

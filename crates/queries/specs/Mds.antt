@@ -1,5 +1,6 @@
 -- What the MDS of a release says to what values ask.
-use Rattle.std.specs.Prelude.{◌≡◌, ◌⊎◌, ⊤, codes, ℕ, Bool, true, false, ◌&&◌, Option, None, option_map, Ok, Err, List, if◌then◌else◌}
+use Rattle.std.specs.Prelude.{◌≡◌, ◌⊎◌, ⊤, codes, ℕ, Bool, true, false, ◌&&◌, Option, None, option_map, Ok, Err, List, ◌++◌, if◌then◌else◌}
+use Rattle.std.specs.Fmt.{decimal}
 use Rattle.capgrant.specs.Question.{Question as Asked}
 use Rattle.capgrant.specs.Question.{question}
 use Rattle.release_rules.specs.declared.asked.Asked.{Asked as AskedFor}
@@ -11,7 +12,7 @@ use Rattle.release_rules.specs.Clients.{client_refuses}
 use Rattle.release_rules.specs.Networks.{address_of}
 use Rattle.release_rules.specs.Question.{Question}
 use Rattle.release_rules.specs.Reading.{read_of}
-use Rattle.release_rules.specs.Releases.{switches_of}
+use Rattle.release_rules.specs.Releases.{switches_of, version_of}
 use Rattle.release_rules.specs.Verdicts.{verdict_of}
 use Rattle.texts.specs.declared.mds_asked.MdsAccess.{MdsAccess}
 use Rattle.texts.specs.declared.mds_asked.MdsAccess.TheVariants.{One}
@@ -22,6 +23,7 @@ use Rattle.queries.specs.declared.fault.QuestionFault.{QuestionFault}
 use Rattle.queries.specs.declared.mds.MdsAnswer.{MdsAnswer}
 use Rattle.queries.specs.declared.mds.MdsFault.{MdsFault}
 use Rattle.queries.specs.declared.mds.MdsFault.TheVariants as faults
+use Rattle.queries.specs.declared.mds.NotRead.{NotRead}
 use Rattle.queries.specs.declared.mds.MdsAsking.{MdsAsking}
 use Rattle.queries.specs.declared.question.Asking.{Asking}
 use Rattle.queries.specs.declared.question.Values.{Values}
@@ -38,6 +40,10 @@ MdsReads release text grants = read_of (switches_of release) text ≡ Ok grants
 abbrev pub IsMdsFault : Release → List ℕ → MdsFault → Type 0
 IsMdsFault release text (faults.NotRead found) = (found.release ≡ release) × (read_of (switches_of release) text ≡ Err (record { at = found.at }))
 IsMdsFault release text faults.NoMemory = ⊤
+
+-- what is said of a text that a release does not read
+abbrev pub not_read_text : NotRead → List ℕ
+not_read_text found = codes "not read by Ceph " ++ (version_of found.release ++ (codes " at " ++ decimal found.at))
 
 -- ---- what is asked
 

@@ -2,17 +2,22 @@
 ghost use Rattle.std.specs.Prelude.{◌≡◌, ◌++◌, OnOk};
 ghost use Rattle.queries.specs.AnyPath.{any_path_text};
 
+use crate::mds::MdsAsking;
 use crate::question::Question;
 use capbits::print;
-use capgrant::{Access, Verdict, verdict};
+use capgrant::{Verdict, verdict};
 use capspec::Grant;
+use release_rules::{Release, first_somewhere};
 use std::alloc::{AllocError, Global};
+use texts::MdsAccess;
 
 /// What they say wherever the inode is.
 #[derive(Clone, Copy)]
 pub enum AnyPath {
     /// The grant of this number allows it at each path.
-    Anywhere(u32),
+    Anywhere(usize),
+    /// The grant of this number allows it at each path to a client in its network.
+    OnAddress(usize),
     /// It is allowed in the directory of the grant of this number, and not at each path.
     Somewhere(usize),
     /// It is allowed at no path.
@@ -20,19 +25,20 @@ pub enum AnyPath {
 }
 
 impl AnyPath {
-    ghost use Rattle.queries.specs.Reported.{is_anywhere, is_sure};
+    ghost use Rattle.std.specs.Prelude.{◌≡◌};
+    ghost use Rattle.queries.specs.AnyPath.{is_anywhere, is_sure};
 
-    /// Whether it is the same at each path.
+    /// Whether it is the same at each path, and wherever the client is.
     pub fn is_sure(self) -> bool
         ensures { result ≡ is_sure self }
     {
         match self {
             AnyPath::Anywhere(_) | AnyPath::Nowhere => true,
-            AnyPath::Somewhere(_) => false,
+            AnyPath::OnAddress(_) | AnyPath::Somewhere(_) => false,
         }
     }
 
-    /// Whether it is allowed at each path.
+    /// Whether it is allowed at each path, wherever the client is.
     pub fn is_anywhere(self) -> bool
         ensures { result ≡ is_anywhere self }
     {
@@ -50,7 +56,7 @@ impl Question {
         ensures { IfOk result (λ any. any ≡ any_path_of self.now) }
     {
         match self.judge_at(&[]) {
-            Verdict::Allowed { grant } => Ok(AnyPath::Anywhere(grant)),
+            Verdict::Allowed { grant } => Ok(AnyPath::Anywhere(grant as usize)),
             Verdict::Denied { rules: _ } => self.somewhere(alloc),
         }
     }
@@ -92,14 +98,58 @@ impl Question {
     }
 }
 
+impl MdsAsking {
+    ghost use Rattle.std.specs.Prelude.{◌≡◌, position};
+    ghost use Rattle.release_rules.specs.Failing.{may_allow_somewhere};
+    ghost use Rattle.release_rules.specs.Releases.{switches_of};
+    ghost use Rattle.texts.specs.MdsAsked.{asked_there};
+    ghost use Rattle.queries.specs.AnyPath.{any_path_there, at_place};
+    ghost use Rattle.queries.specs.Mds.{mds_question};
+
+    /// What the MDS of a release says to it at any path, by what it says at the root.
+    pub fn at_any_path(
+        &self,
+        release: Release,
+        at_root: &release_rules::Verdict,
+        grants: &[release_rules::Grant],
+    ) -> AnyPath
+        ensures { result ≡ any_path_there at_root.now
+            (position (may_allow_somewhere (switches_of release) (mds_question self.now.asking (asked_there self.now.access))) grants.now) }
+    {
+        match at_root {
+            release_rules::Verdict::Allowed { grant } => AnyPath::Anywhere(*grant),
+            release_rules::Verdict::DependsOnAddress { grant } => AnyPath::OnAddress(*grant),
+            release_rules::Verdict::CannotMount => AnyPath::Nowhere,
+            release_rules::Verdict::Denied { .. } => self.somewhere_by(release, grants),
+        }
+    }
+
+    // The first grant in whose directory it would be allowed.
+    fn somewhere_by(&self, release: Release, grants: &[release_rules::Grant]) -> AnyPath
+        ensures { result ≡ at_place
+            (position (may_allow_somewhere (switches_of release) (mds_question self.now.asking (asked_there self.now.access))) grants.now) }
+    {
+        let switches = release.switches();
+        let question = self.asking.of_mds(self.access.asked());
+        match first_somewhere(switches, &question, grants) {
+            Some(place) => AnyPath::Somewhere(place + 1),
+            None => AnyPath::Nowhere,
+        }
+    }
+}
+
 /// Appends what is said of it, with a line feed. `AllocError` where no memory is left for it.
-pub fn print_any_path(text: &mut Vec<u8>, access: Access, any: AnyPath) -> Result<(), AllocError>
+pub fn print_any_path(text: &mut Vec<u8>, access: MdsAccess, any: AnyPath) -> Result<(), AllocError>
     ensures { OnOk result (text.new.items ≡ text.old.items ++ any_path_text access any) }
 {
     match any {
         AnyPath::Anywhere(grant) => print(
             text,
             format_args!("allowed {access} at any path, grant {grant}\n"),
+        ),
+        AnyPath::OnAddress(grant) => print(
+            text,
+            format_args!("depends on the address: {access} grant {grant}\n"),
         ),
         AnyPath::Somewhere(grant) => print(
             text,

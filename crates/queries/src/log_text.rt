@@ -7,10 +7,11 @@ ghost use Rattle.queries.specs.LogPieces.{TellsLines};
 ghost use Rattle.queries.specs.Reported.{IsReported, Says, SaysBehind, SaysFault, answer_lines, formless_line, is_answer, passed_line, scope_of};
 ghost use Rattle.queries.specs.Reported.{state_of, told_line, unknown_line};
 
-use crate::any_path::print_any_path;
 use crate::before::{Before, Given, given_for, is_before, said_before};
 use crate::check::{Check, check_in, read_check, read_head};
 use crate::fault::QuestionFault;
+use crate::log_by::print_by_release;
+use crate::log_manner::{Manner, print_any};
 use crate::log_scope::LogScope;
 use crate::mask::{accesses, read_mask};
 use crate::question::Question;
@@ -18,7 +19,7 @@ use crate::values::{fill, no_values};
 use capbits::{print, print_number};
 use capgrant::Access;
 use std::alloc::{AllocError, Global};
-use texts::{print_quoted, print_unread, split_line};
+use texts::{MdsAccess, print_quoted, print_unread, split_line};
 
 // Where the telling of a log is.
 struct LogState {
@@ -242,7 +243,11 @@ fn print_between(
         return Ok(false);
     };
     let given = given_for(scope.fs, head.fs, before, &check);
-    print_check(reported, number, scope.only_denied, &given, &check)
+    let only_denied = scope.only_denied;
+    match scope.release {
+        Some(release) => print_by_release(reported, number, only_denied, release, &given, &check),
+        None => print_check(reported, number, only_denied, &given, &check),
+    }
 }
 
 // A check of another form.
@@ -294,37 +299,17 @@ fn print_check(
     }
 }
 
-// A mask that asks for something else.
-fn print_unknown(reported: &mut Vec<u8>, number: u64, mask: &[u8]) -> Result<(), AllocError>
+/// A mask that asks for something else.
+pub(crate) fn print_unknown(
+    reported: &mut Vec<u8>,
+    number: u64,
+    mask: &[u8],
+) -> Result<(), AllocError>
     ensures { OnOk result (reported.new.items ≡ reported.old.items ++ unknown_line number mask.now) }
 {
     print(reported, format_args!("{number}: unknown mask "))?;
     print_quoted(reported, mask)?;
     Ok(reported.push(b'\n')?)
-}
-
-// How the answers to a check are told.
-#[derive(Clone, Copy)]
-struct Manner<'a> {
-    // The number of its line.
-    number: u64,
-    // Whether what is allowed is left out.
-    only_denied: bool,
-    // Whether its path is known.
-    has_path: bool,
-    // The text that its grants were read in.
-    grants: &'a [u8],
-}
-
-impl Manner<'_> {
-    ghost use Rattle.std.specs.Prelude.{◌≡◌, ◌&&◌};
-
-    // Whether an answer is left out, by whether it is that something is allowed.
-    fn leaves_out(&self, is_allowed: bool) -> bool
-        ensures { result ≡ (self.now.only_denied && is_allowed) }
-    {
-        self.only_denied && is_allowed
-    }
 }
 
 // The answers to the question, by each of these accesses in the place of its own; and whether each is one, which it may not be where its path
@@ -404,18 +389,15 @@ fn print_pathless(
     ensures judged { IfOk result (λ judged. judged ≡ is_answer false question.now question.now.access) }
 {
     let any = question.at_any_path(*reported.allocator())?;
-    let is_sure = any.is_sure();
-    if manner.leaves_out(any.is_anywhere()) {
-        return Ok(is_sure);
-    }
-    let number = manner.number;
-    print(reported, format_args!("{number}: no path in this line: "))?;
-    print_any_path(reported, question.access, any)?;
-    Ok(is_sure)
+    print_any(reported, manner, MdsAccess::One(question.access), any)
 }
 
-// Why the values of a check ask nothing.
-fn print_fault(reported: &mut Vec<u8>, number: u64, fault: QuestionFault) -> Result<(), AllocError>
+/// Why the values of a check ask nothing.
+pub(crate) fn print_fault(
+    reported: &mut Vec<u8>,
+    number: u64,
+    fault: QuestionFault,
+) -> Result<(), AllocError>
     ensures { OnOk result ((more : List ℕ) × (reported.new.items ≡ reported.old.items ++ more) × SaysFault number fault more) }
 {
     match fault {

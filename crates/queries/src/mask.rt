@@ -3,7 +3,7 @@ ghost use Rattle.std.specs.Prelude.{◌≡◌, ◌<◌, ◌++◌, IfOk, MatchOpt
 ghost use Rattle.queries.specs.declared.mask.Mask.{Mask as AMask};
 ghost use Rattle.queries.specs.Checks.{texts_of};
 ghost use Rattle.capgrant.specs.Masks.{asked_if};
-ghost use Rattle.queries.specs.Masks.{IsMaskOf, accesses_of, is_mask};
+ghost use Rattle.queries.specs.Masks.{AreNumbersOf, IsMaskOf, accesses_of, is_mask};
 
 use crate::check::Check;
 use capbits::read_u32;
@@ -18,18 +18,22 @@ pub struct Mask {
     pub gid: u32,
 }
 
-/// The mask of a check, if these are numbers, and each of its bits has a meaning.
-pub fn read_mask(check: &Check<'_>) -> Option<Mask>
-    ensures { MatchOption result ((mask : AMask) → ¬ IsMaskOf (texts_of check.now) mask) (IsMaskOf (texts_of check.now)) }
+/// The numbers of a check's mask, whatever its bits mean.
+pub fn read_numbers(check: &Check<'_>) -> Option<Mask>
+    ensures { MatchOption result ((mask : AMask) → ¬ AreNumbersOf (texts_of check.now) mask) (AreNumbersOf (texts_of check.now)) }
 {
     let bits = read_u32(check.mask)?;
     let uid = read_u32(check.new_uid)?;
     let gid = read_u32(check.new_gid)?;
-    if is_mask(bits) {
-        Some(Mask { bits, uid, gid })
-    } else {
-        None
-    }
+    Some(Mask { bits, uid, gid })
+}
+
+/// The mask of a check, if these are numbers, and each of its bits has a meaning.
+pub fn read_mask(check: &Check<'_>) -> Option<Mask>
+    ensures { MatchOption result ((mask : AMask) → ¬ IsMaskOf (texts_of check.now) mask) (IsMaskOf (texts_of check.now)) }
+{
+    let mask = read_numbers(check)?;
+    if is_mask(mask.bits) { Some(mask) } else { None }
 }
 
 // Whether there is a bit, and none but those of accesses.

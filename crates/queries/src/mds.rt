@@ -22,6 +22,11 @@ pub struct NotRead {
 }
 
 impl fmt::Display for NotRead {
+    ghost use Rattle.std.specs.Prelude.{Some};
+    ghost use Rattle.queries.specs.Mds.{not_read_text};
+
+    ghost output = { λ found. Some (not_read_text found) };
+
     fn fmt<W: fmt::Write>(&self, f: &mut fmt::Formatter<W>) -> fmt::Result {
         let (version, at) = (self.release.version(), self.at);
         write!(f, "not read by Ceph {version} at {at}")
@@ -183,8 +188,8 @@ impl Asking {
     ghost use Rattle.std.specs.Prelude.{◌≡◌, map};
     ghost use Rattle.queries.specs.Mds.{asked_by, mds_question};
 
-    // What is asked of an MDS that is asked for this.
-    fn of_mds(&self, asked: Asked) -> Question<'_>
+    /// What is asked of an MDS that is asked for this.
+    pub(crate) fn of_mds(&self, asked: Asked) -> Question<'_>
         ensures { result ≡ mds_question self.now asked }
     {
         Question {

@@ -1,5 +1,5 @@
--- A release reads no more grants in a text than that has bytes, and one.
-use Rattle.std.proofs.Common.{◌≡◌, ℕ, zero, suc, ◌+◌, ◌≤◌, ◌^◌, Bool, true, false, Option, Some, None, List, [], ◌∷◌, ◌++◌, length, take, drop, arith, length-append}
+-- A release reads no more grants in a text than that has bytes, and one; and what it does not read stands in it.
+use Rattle.std.proofs.Common.{◌≡◌, ℕ, zero, suc, ◌+◌, ◌≤◌, ◌^◌, Bool, true, false, Option, Some, None, List, [], ◌∷◌, ◌++◌, length, take, drop, subst, arith, length-append}
 use Rattle.std.specs.Prelude.{IfSome, Result, Ok, Err, bytes_eq, codes, ◌==◌, ◌||◌, nat_le, option_map, option_and_then, if◌then◌else◌}
 use Rattle.std.specs.Option.{option_or}
 use Rattle.std.specs.Str.Parse.{digits_value}
@@ -201,3 +201,24 @@ few_read switches text =
     let start : List ℕ = rest_while is_any_white text in
     cond_both (bytes_eq text (codes "allow")) (Ok (plain_allow ∷ [])) (grants_behind switches text (grant_at switches start) start) (AreFew (length text + 1)) (λ plain. omega arith)
     (λ other. few_behind switches text start (grant_at switches start) (grant_left (length text) switches start (short_while is_any_white text)))
+
+-- ---- the place of what is not read
+
+abbrev IsNear : ℕ → Result (List Grant) Unread → Type 0
+IsNear most (Ok grants) = Unit {0}
+IsNear most (Err unread) = unread.at ≤ most
+
+near_whole : (text : List ℕ) (found : List Grant × List ℕ) → IsNear (length text) (whole text found)
+near_whole text found =
+    let left : List ℕ = rest_while is_any_white found.1 in
+    cond_both (length left == 0) (Ok found.0) (unread_from text left) (IsNear (length text)) (λ all. tt) (λ some. omega arith)
+
+near_behind : (switches : Switches) (text start : List ℕ) (first : Option (Grant × List ℕ)) → IsNear (length text) (grants_behind switches text first start)
+near_behind switches text start None = omega arith
+near_behind switches text start (Some (first, rest)) = near_whole text (more_grants switches (length rest) (first ∷ []) rest)
+
+pub near_read : (switches : Switches) (text : List ℕ) (unread : Unread) → read_of switches text ≡ Err unread → unread.at ≤ length text
+near_read switches text unread is =
+    let start : List ℕ = rest_while is_any_white text in
+    subst (IsNear (length text)) is
+    (cond_both (bytes_eq text (codes "allow")) (Ok (plain_allow ∷ [])) (grants_behind switches text (grant_at switches start) start) (IsNear (length text)) (λ plain. tt) (λ other. near_behind switches text start (grant_at switches start)))

@@ -1,5 +1,5 @@
 -- The rules: when a grant fails to allow what is asked of an MDS. The MDS tests all of them, in an order of its own.
-use Rattle.std.specs.Prelude.{ℕ, Bool, not, nat_lt, ◌*◌, ◌&&◌, ◌||◌, ◌==◌, Option, None, is_some, length, find, bytes_eq, List, if◌then◌else◌}
+use Rattle.std.specs.Prelude.{ℕ, Bool, not, nat_lt, ◌*◌, ◌&&◌, ◌||◌, ◌==◌, Option, None, is_none, is_some, length, find, bytes_eq, List, if◌then◌else◌}
 use Rattle.std.specs.List.{list_any}
 use Rattle.capbits.specs.declared.caller.Caller.{Caller}
 use Rattle.capbits.specs.Caller.{gids_of}
@@ -14,7 +14,7 @@ use Rattle.release_rules.specs.Flags.{has_f, has_p, has_s, has_w}
 use Rattle.release_rules.specs.Networks.{in_network, is_no}
 use Rattle.release_rules.specs.Paths.{directory_of, lies_in, path_text}
 use Rattle.release_rules.specs.Question.{Question, class_unit, is_own_group, is_owner}
-use Rattle.release_rules.specs.Rules.{all_rules}
+use Rattle.release_rules.specs.Rules.{all_rules, rules_but_path}
 
 abbrev pub is_zero : ℕ → Bool
 is_zero n = n == 0
@@ -105,3 +105,7 @@ fails rule.Network switches q g = fails_network q g
 -- the first rule by which the grant fails, if there is one: all that is asked has to be allowed by the one grant
 unfoldable pub first_failing : Switches → Question → Grant → Option Rule
 first_failing switches q g = find (λ r. fails r switches q g) all_rules
+
+-- no rule fails but, perhaps, that of the path: the grant allows it in its directory, if the client is in its network
+unfoldable pub may_allow_somewhere : Switches → Question → Grant → Bool
+may_allow_somewhere switches q g = is_none (find (λ r. fails r switches q g) rules_but_path)

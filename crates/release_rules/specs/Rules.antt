@@ -8,6 +8,10 @@ use Rattle.release_rules.specs.declared.rule.Rule.TheVariants.{RootSquash, Uid}
 abbrev pub all_rules : List Rule
 all_rules = FsName ∷ Uid ∷ Gids ∷ Path ∷ NoWrite ∷ RootSquash ∷ NoP ∷ NoS ∷ NotOwner ∷ NotOwnGroup ∷ ModeBits ∷ NoF ∷ Network ∷ []
 
+-- all but that of the path
+abbrev pub rules_but_path : List Rule
+rules_but_path = FsName ∷ Uid ∷ Gids ∷ NoWrite ∷ RootSquash ∷ NoP ∷ NoS ∷ NotOwner ∷ NotOwnGroup ∷ ModeBits ∷ NoF ∷ Network ∷ []
+
 -- the number of a rule: its place in that order, from 1. The first eleven have those of the server's own rules.
 abbrev pub rule_number : Rule → ℕ
 rule_number FsName = 1

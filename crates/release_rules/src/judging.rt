@@ -2,6 +2,7 @@
 ghost use Rattle.std.specs.Prelude.{◌≡◌, IfOk, position};
 ghost use Rattle.release_rules.specs.Verdicts.{allows, first_failures, is_for_everything, lets_mount, may_allow, may_mount, verdict_of};
 ghost use Rattle.release_rules.specs.Clients.{changes_attributes, client_refuses, decided};
+ghost use Rattle.release_rules.specs.Failing.{may_allow_somewhere};
 
 use crate::grant::Grant;
 use crate::paths::without_first_slashes;
@@ -89,6 +90,18 @@ fn first_maybe_allowing(switches: Switches, question: &Question, grants: &[Grant
     grants
         .iter()
         .position(|grant| question.may_be_allowed_by(switches, grant))
+}
+
+/// The place, from 0, of the first grant that allows what is asked of what lies in its directory, if the client is in its network. So no path
+/// helps where there is none.
+///
+/// Needs no memory.
+pub fn first_somewhere(switches: Switches, question: &Question, grants: &[Grant]) -> Option<usize>
+    ensures { result ≡ position (may_allow_somewhere switches question.now) grants.now }
+{
+    grants
+        .iter()
+        .position(|grant| question.may_be_allowed_somewhere(switches, grant))
 }
 
 // The first rule by which each grant fails, of those that do.

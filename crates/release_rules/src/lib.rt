@@ -26,7 +26,9 @@ pub use beside::{Others, Otherwise, Reason, allowed_there, answers_beside, denie
 pub use flags::Flags;
 pub use forms::{NoForm, mds_form};
 pub use grant::{GidList, Grant, Grants, Text};
-pub use judging::{changes_attributes, client_refuses, is_for_everything, may_mount, mds_verdict};
+pub use judging::{
+    changes_attributes, client_refuses, first_somewhere, is_for_everything, may_mount, mds_verdict,
+};
 pub use network::{read_address, writes_network};
 pub use paths::directory_of;
 pub use question::{Question, user_of};

@@ -80,7 +80,7 @@ impl Question<'_> {
     ghost use Rattle.release_rules.specs.Question.{class_unit, is_owner};
     ghost use Rattle.release_rules.specs.Failing.{fails, fails_fsname, fails_gids, fails_mode_bits, fails_network, fails_no_f, fails_no_p, fails_no_s};
     ghost use Rattle.release_rules.specs.Failing.{fails_no_write, fails_not_own_group, fails_not_owner, fails_path, fails_root_squash, fails_uid};
-    ghost use Rattle.release_rules.specs.Failing.{first_failing, lacks};
+    ghost use Rattle.release_rules.specs.Failing.{first_failing, lacks, may_allow_somewhere};
     ghost use Rattle.release_rules.specs.Verdicts.{allows, is_open, may_allow};
     ghost use Rattle.release_rules.specs.Clients.{is_for, refuses};
 
@@ -96,6 +96,17 @@ impl Question<'_> {
         ensures { result ≡ may_allow switches self.now grant.now }
     {
         self.first_failing(switches, grant).is_none()
+    }
+
+    /// Whether the grant allows what is asked of what lies in its directory, if the client is in its network.
+    #[tactic(auto, unfolding(crate::specs::Failing::may_allow_somewhere))]
+    pub(crate) fn may_be_allowed_somewhere(&self, switches: Switches, grant: &Grant) -> bool
+        ensures { result ≡ may_allow_somewhere switches self.now grant.now }
+    {
+        !self.fails_fsname(switches, grant)
+            && !self.fails_uid(switches, grant)
+            && !self.fails_gids(switches, grant)
+            && self.first_failing_by_asked(switches, grant).is_none()
     }
 
     /// Whether it is not known that the client is in the grant's network.

@@ -12,7 +12,7 @@ use Rattle.release_rules.specs.declared.verdict.Verdict.TheVariants.{Allowed, Ca
 use Rattle.release_rules.specs.Rules.{rule_number, rule_word}
 use Rattle.texts.specs.declared.mds_asked.MdsAccess.{MdsAccess}
 use Rattle.texts.specs.Explaining.{path_text}
-use Rattle.texts.specs.Mds.{mds_failure, mds_failures, mds_outcome, mds_reason, mds_text, refused_line}
+use Rattle.texts.specs.Mds.{mds_failure, mds_failures, mds_line, mds_outcome, mds_reason, mds_text, refused_line}
 use Rattle.texts.specs.MdsTold.{HasSmallNumbers, HasMdsGrant, HasRefusal}
 use Rattle.texts.specs.MdsAsked.{mds_access_word}
 use Rattle.texts.specs.Quoting.{quoted}
@@ -98,61 +98,67 @@ one_refusal (Some g) None small also same = clash 0 116 (omega arith) (sym (ap f
 one_refusal (Some g) (Some h) small also same =
     ap Some (number_and 41 10 g h [] [] refl refl small also (append_cancel_left (codes "the client itself refuses to change attributes (grant ") (decimal g ++ 41 ∷ 10 ∷ []) (decimal h ++ 41 ∷ 10 ∷ []) same)).0
 
--- ---- all of it
+-- ---- the line, whatever stands behind it
 
-in_parts : (a : MdsAccess) (p : List (List ℕ)) (v : Verdict) (refused : Option ℕ)
-    → mds_text a p v refused ≡ mds_outcome v ++ (mds_access_word a ++ 32 ∷ (quoted (path_text p) ++ (mds_reason v ++ 10 ∷ refused_line refused)))
-in_parts a p v refused =
+in_parts : (a : MdsAccess) (p : List (List ℕ)) (v : Verdict) (s : List ℕ)
+    → mds_line a p v ++ 10 ∷ s ≡ mds_outcome v ++ (mds_access_word a ++ 32 ∷ (quoted (path_text p) ++ (mds_reason v ++ 10 ∷ s)))
+in_parts a p v s =
     let path : List ℕ = quoted (path_text p) in
-    let end : List ℕ = codes "\n" ++ refused_line refused in
-    append_assoc (mds_outcome v) (mds_access_word a ++ (codes " " ++ (path ++ mds_reason v))) end
+    append_assoc (mds_outcome v) (mds_access_word a ++ (codes " " ++ (path ++ mds_reason v))) (10 ∷ s)
     ∙ ap (λ (r : List ℕ). mds_outcome v ++ r)
-    (append_assoc (mds_access_word a) (codes " " ++ (path ++ mds_reason v)) end ∙ ap (λ (r : List ℕ). mds_access_word a ++ 32 ∷ r) (append_assoc path (mds_reason v) end))
+    (append_assoc (mds_access_word a) (codes " " ++ (path ++ mds_reason v)) (10 ∷ s) ∙ ap (λ (r : List ℕ). mds_access_word a ++ 32 ∷ r) (append_assoc path (mds_reason v) (10 ∷ s)))
 
-module _ (a b : MdsAccess) (p q : List (List ℕ)) (refused also : Option ℕ) (fits : HasSmallNumbers a) (too : HasSmallNumbers b) (small : HasRefusal refused) (likewise : HasRefusal also) where
+module _ (a b : MdsAccess) (p q : List (List ℕ)) (s t : List ℕ) (fits : HasSmallNumbers a) (too : HasSmallNumbers b) where
   abbrev Told : Verdict → Verdict → Type 0
-  Told v w = (a ≡ b) × (path_text p ≡ path_text q) × (v ≡ w) × (refused ≡ also)
+  Told v w = (a ≡ b) × (path_text p ≡ path_text q) × (v ≡ w) × (s ≡ t)
 
   -- behind one outcome
-  behind : (outcome s t : List ℕ) → outcome ++ (mds_access_word a ++ 32 ∷ (quoted (path_text p) ++ 32 ∷ s)) ≡ outcome ++ (mds_access_word b ++ 32 ∷ (quoted (path_text q) ++ 32 ∷ t))
-      → (a ≡ b) × (path_text p ≡ path_text q) × (s ≡ t)
-  behind outcome s t same =
-      parted_there a b (path_text p) (path_text q) s t fits too (append_cancel_left outcome (mds_access_word a ++ 32 ∷ (quoted (path_text p) ++ 32 ∷ s)) (mds_access_word b ++ 32 ∷ (quoted (path_text q) ++ 32 ∷ t)) same)
+  behind : (outcome x y : List ℕ) → outcome ++ (mds_access_word a ++ 32 ∷ (quoted (path_text p) ++ 32 ∷ x)) ≡ outcome ++ (mds_access_word b ++ 32 ∷ (quoted (path_text q) ++ 32 ∷ y))
+      → (a ≡ b) × (path_text p ≡ path_text q) × (x ≡ y)
+  behind outcome x y same =
+      parted_there a b (path_text p) (path_text q) x y fits too (append_cancel_left outcome (mds_access_word a ++ 32 ∷ (quoted (path_text p) ++ 32 ∷ x)) (mds_access_word b ++ 32 ∷ (quoted (path_text q) ++ 32 ∷ y)) same)
 
   by_number : (g h : ℕ) → g < 2 ^ 64 → h < 2 ^ 64 → (v w : Verdict) (make : ℕ → Verdict) → v ≡ make g → w ≡ make h
-      → (a ≡ b) × (path_text p ≡ path_text q) × (codes "grant " ++ (decimal g ++ 10 ∷ refused_line refused) ≡ codes "grant " ++ (decimal h ++ 10 ∷ refused_line also)) → Told v w
+      → (a ≡ b) × (path_text p ≡ path_text q) × (codes "grant " ++ (decimal g ++ 10 ∷ s) ≡ codes "grant " ++ (decimal h ++ 10 ∷ t)) → Told v w
   by_number g h low high v w make is too_is all =
-      let number = number_to 10 g h (refused_line refused) (refused_line also) refl low high (append_cancel_left (codes "grant ") (decimal g ++ 10 ∷ refused_line refused) (decimal h ++ 10 ∷ refused_line also) all.2) in
-      (all.0, all.1, is ∙ ap make number.0 ∙ sym too_is, one_refusal refused also small likewise number.1)
+      let number = number_to 10 g h s t refl low high (append_cancel_left (codes "grant ") (decimal g ++ 10 ∷ s) (decimal h ++ 10 ∷ t) all.2) in
+      (all.0, all.1, is ∙ ap make number.0 ∙ sym too_is, number.1)
 
   by_verdicts : (v w : Verdict) → HasMdsGrant v → HasMdsGrant w
-      → mds_outcome v ++ (mds_access_word a ++ 32 ∷ (quoted (path_text p) ++ (mds_reason v ++ 10 ∷ refused_line refused))) ≡ mds_outcome w ++ (mds_access_word b ++ 32 ∷ (quoted (path_text q) ++ (mds_reason w ++ 10 ∷ refused_line also)))
+      → mds_outcome v ++ (mds_access_word a ++ 32 ∷ (quoted (path_text p) ++ (mds_reason v ++ 10 ∷ s))) ≡ mds_outcome w ++ (mds_access_word b ++ 32 ∷ (quoted (path_text q) ++ (mds_reason w ++ 10 ∷ t)))
       → Told v w
-  by_verdicts (Allowed g) (Allowed h) low high same = by_number g h low high (Allowed g) (Allowed h) Allowed refl refl (behind (codes "allowed ") (codes "grant " ++ (decimal g ++ 10 ∷ refused_line refused)) (codes "grant " ++ (decimal h ++ 10 ∷ refused_line also)) same)
+  by_verdicts (Allowed g) (Allowed h) low high same = by_number g h low high (Allowed g) (Allowed h) Allowed refl refl (behind (codes "allowed ") (codes "grant " ++ (decimal g ++ 10 ∷ s)) (codes "grant " ++ (decimal h ++ 10 ∷ t)) same)
   by_verdicts (Allowed g) (DependsOnAddress h) low high same = clash 97 100 (omega arith) (ap first_byte same)
   by_verdicts (Allowed g) CannotMount low high same = clash 97 100 (omega arith) (ap first_byte same)
   by_verdicts (Allowed g) (Denied qs) low high same = clash 97 100 (omega arith) (ap first_byte same)
   by_verdicts (DependsOnAddress g) (Allowed h) low high same = clash 97 100 (omega arith) (sym (ap first_byte same))
-  by_verdicts (DependsOnAddress g) (DependsOnAddress h) low high same = by_number g h low high (DependsOnAddress g) (DependsOnAddress h) DependsOnAddress refl refl (behind (codes "depends on the address: ") (codes "grant " ++ (decimal g ++ 10 ∷ refused_line refused)) (codes "grant " ++ (decimal h ++ 10 ∷ refused_line also)) same)
+  by_verdicts (DependsOnAddress g) (DependsOnAddress h) low high same = by_number g h low high (DependsOnAddress g) (DependsOnAddress h) DependsOnAddress refl refl (behind (codes "depends on the address: ") (codes "grant " ++ (decimal g ++ 10 ∷ s)) (codes "grant " ++ (decimal h ++ 10 ∷ t)) same)
   by_verdicts (DependsOnAddress g) CannotMount low high same = clash 110 112 (omega arith) (sym (ap (λ (text : List ℕ). first_byte (drop 2 text)) same))
   by_verdicts (DependsOnAddress g) (Denied qs) low high same = clash 110 112 (omega arith) (sym (ap (λ (text : List ℕ). first_byte (drop 2 text)) same))
   by_verdicts CannotMount (Allowed h) low high same = clash 97 100 (omega arith) (sym (ap first_byte same))
   by_verdicts CannotMount (DependsOnAddress h) low high same = clash 110 112 (omega arith) (ap (λ (text : List ℕ). first_byte (drop 2 text)) same)
   by_verdicts CannotMount CannotMount low high same =
-      let all = behind (codes "denied ") (codes "no grant lets the client mount" ++ 10 ∷ refused_line refused) (codes "no grant lets the client mount" ++ 10 ∷ refused_line also) same in
-      (all.0, all.1, refl, one_refusal refused also small likewise (append_cancel_left (codes "no grant lets the client mount\n") (refused_line refused) (refused_line also) all.2))
+      let all = behind (codes "denied ") (codes "no grant lets the client mount" ++ 10 ∷ s) (codes "no grant lets the client mount" ++ 10 ∷ t) same in
+      (all.0, all.1, refl, append_cancel_left (codes "no grant lets the client mount\n") s t all.2)
   by_verdicts CannotMount (Denied qs) low high same =
-      no_mount qs (10 ∷ refused_line refused) (10 ∷ refused_line also) (behind (codes "denied ") (codes "no grant lets the client mount" ++ 10 ∷ refused_line refused) (mds_failures qs ++ 10 ∷ refused_line also) same).2
+      no_mount qs (10 ∷ s) (10 ∷ t) (behind (codes "denied ") (codes "no grant lets the client mount" ++ 10 ∷ s) (mds_failures qs ++ 10 ∷ t) same).2
   by_verdicts (Denied rs) (Allowed h) low high same = clash 97 100 (omega arith) (sym (ap first_byte same))
   by_verdicts (Denied rs) (DependsOnAddress h) low high same = clash 110 112 (omega arith) (ap (λ (text : List ℕ). first_byte (drop 2 text)) same)
   by_verdicts (Denied rs) CannotMount low high same =
-      no_mount rs (10 ∷ refused_line also) (10 ∷ refused_line refused) (sym (behind (codes "denied ") (mds_failures rs ++ 10 ∷ refused_line refused) (codes "no grant lets the client mount" ++ 10 ∷ refused_line also) same).2)
+      no_mount rs (10 ∷ t) (10 ∷ s) (sym (behind (codes "denied ") (mds_failures rs ++ 10 ∷ s) (codes "no grant lets the client mount" ++ 10 ∷ t) same).2)
   by_verdicts (Denied rs) (Denied qs) low high same =
-      let all = behind (codes "denied ") (mds_failures rs ++ 10 ∷ refused_line refused) (mds_failures qs ++ 10 ∷ refused_line also) same in
-      let list = one_list rs qs (refused_line refused) (refused_line also) all.2 in
-      (all.0, all.1, ap Denied list.0, one_refusal refused also small likewise list.1)
+      let all = behind (codes "denied ") (mds_failures rs ++ 10 ∷ s) (mds_failures qs ++ 10 ∷ t) same in
+      let list = one_list rs qs s t all.2 in
+      (all.0, all.1, ap Denied list.0, list.1)
+
+pub one_mds_line_to : (a b : MdsAccess) (p q : List (List ℕ)) (v w : Verdict) (s t : List ℕ) → HasSmallNumbers a → HasSmallNumbers b → HasMdsGrant v → HasMdsGrant w
+    → mds_line a p v ++ 10 ∷ s ≡ mds_line b q w ++ 10 ∷ t → (a ≡ b) × (path_text p ≡ path_text q) × (v ≡ w) × (s ≡ t)
+one_mds_line_to a b p q v w s t fits too low high same = by_verdicts a b p q s t fits too v w low high (sym (in_parts a p v s) ∙ same ∙ in_parts b q w t)
+
+-- ---- all of it
 
 pub one_mds_text : (a b : MdsAccess) (p q : List (List ℕ)) (v w : Verdict) (refused also : Option ℕ) → HasSmallNumbers a → HasSmallNumbers b → HasMdsGrant v → HasMdsGrant w → HasRefusal refused → HasRefusal also
     → mds_text a p v refused ≡ mds_text b q w also → (a ≡ b) × (path_text p ≡ path_text q) × (v ≡ w) × (refused ≡ also)
 one_mds_text a b p q v w refused also fits too low high small likewise same =
-    by_verdicts a b p q refused also fits too small likewise v w low high (sym (in_parts a p v refused) ∙ same ∙ in_parts b q w also)
+    let line = one_mds_line_to a b p q v w (refused_line refused) (refused_line also) fits too low high same in
+    (line.0, line.1, line.2, one_refusal refused also small likewise line.3)

@@ -27,7 +27,7 @@ plain_mask bits uid gid small =
     (plain_both (decimal uid) (codes ":" ++ decimal gid) (plain_number uid (omega (arith, small.1)))
     (plain_both (codes ":") (decimal gid) refl (plain_number gid (omega (arith, small.2)))))))
 
-plain_asked : (a : MdsAccess) → HasSmallNumbers a → list_all is_plain (mds_access_word a) ≡ true
+pub plain_asked : (a : MdsAccess) → HasSmallNumbers a → list_all is_plain (mds_access_word a) ≡ true
 plain_asked (One access) small = plain_word access small
 plain_asked ReadWrite small = refl
 plain_asked (Mask bits uid gid) small = plain_mask bits uid gid small
