@@ -35,6 +35,22 @@ const ALL_RULES: [Rule; 13] = [
     Rule::Network,
 ];
 
+// All but that of the path.
+const RULES_BUT_PATH: [Rule; 12] = [
+    Rule::FsName,
+    Rule::Uid,
+    Rule::Gids,
+    Rule::NoWrite,
+    Rule::RootSquash,
+    Rule::NoP,
+    Rule::NoS,
+    Rule::NotOwner,
+    Rule::NotOwnGroup,
+    Rule::ModeBits,
+    Rule::NoF,
+    Rule::Network,
+];
+
 /// What is asked of the grants of a client: whether, on this file system, this caller may do this with an inode.
 pub struct Question<'a> {
     /// The name of the file system.
@@ -76,8 +92,9 @@ impl<'a> Model for Question<'a> {
 }
 
 impl Question<'_> {
-    ghost use Rattle.std.specs.Prelude.{◌≡◌, ◌≤◌, not};
+    ghost use Rattle.std.specs.Prelude.{◌≡◌, ◌≤◌, find, not};
     ghost use Rattle.release_rules.specs.Question.{class_unit, is_owner};
+    ghost use Rattle.release_rules.specs.Rules.{rules_but_path};
     ghost use Rattle.release_rules.specs.Failing.{fails, fails_fsname, fails_gids, fails_mode_bits, fails_network, fails_no_f, fails_no_p, fails_no_s};
     ghost use Rattle.release_rules.specs.Failing.{fails_no_write, fails_not_own_group, fails_not_owner, fails_path, fails_root_squash, fails_uid};
     ghost use Rattle.release_rules.specs.Failing.{first_failing, lacks, may_allow_somewhere};
@@ -103,10 +120,17 @@ impl Question<'_> {
     pub(crate) fn may_be_allowed_somewhere(&self, switches: Switches, grant: &Grant) -> bool
         ensures { result ≡ may_allow_somewhere switches self.now grant.now }
     {
-        !self.fails_fsname(switches, grant)
-            && !self.fails_uid(switches, grant)
-            && !self.fails_gids(switches, grant)
-            && self.first_failing_by_asked(switches, grant).is_none()
+        self.first_failing_but_path(switches, grant).is_none()
+    }
+
+    // The first rule but that of the path by which the grant fails, if there is one.
+    fn first_failing_but_path(&self, switches: Switches, grant: &Grant) -> Option<Rule>
+        ensures { result ≡ find (λ r. fails r switches self.now grant.now) rules_but_path }
+    {
+        RULES_BUT_PATH
+            .iter()
+            .copied()
+            .find(|rule| self.fails(*rule, switches, grant))
     }
 
     /// Whether it is not known that the client is in the grant's network.
