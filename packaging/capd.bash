@@ -24,7 +24,7 @@ _capd() {
     elif [[ $before == --access || $before == who ]]; then
         mapfile -t COMPREPLY < <(compgen -W 'read write vxattr snapshot chmod' -- "$word")
     elif [[ ${COMP_WORDS[1]} == audit ]]; then
-        mapfile -t COMPREPLY < <(compgen -W '--auth --sessions --tree --rule --json --fs --help' -- "$word")
+        mapfile -t COMPREPLY < <(compgen -W '--auth --sessions --tree --rule --mds --json --fs --help' -- "$word")
     elif [[ ${COMP_WORDS[1]} == who ]]; then
         mapfile -t COMPREPLY < <(compgen -W '--auth --fs --owner --group --mode --mds --more --json --help' -- "$word")
     else

@@ -196,7 +196,7 @@ impl Matched<'_, '_> {
         ensures { IfOk result (IsAuditArgs (words_of self.now.matches.now)) }
     {
         Ok(AuditArgs {
-            manner: self.manner(),
+            manner: self.manner()?,
             fs: self.given(Opt::Fs.name())?,
             files: ClusterFiles {
                 auth: self.value(AUTH)?,
@@ -209,17 +209,18 @@ impl Matched<'_, '_> {
         })
     }
 
-    fn manner(&self) -> Manner
-        ensures { IsManner (words_of self.now.matches.now) result }
+    fn manner(&self) -> Result<Manner, ErrorKind>
+        ensures { IfOk result (IsManner (words_of self.now.matches.now)) }
     {
-        Manner {
+        Ok(Manner {
+            mds: self.mds()?,
             detail: if self.says(RULE) {
                 Detail::Groups
             } else {
                 Detail::Each
             },
             shape: self.shape(),
-        }
+        })
     }
 
     fn attr(&self) -> Result<Option<AttrValues>, ErrorKind>

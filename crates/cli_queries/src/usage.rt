@@ -467,7 +467,7 @@ const WHO_WORDS: [Word; 10] = [
     BY_RELEASE,
 ];
 
-const AUDIT_WORDS: [Word; 6] = [
+const AUDIT_WORDS: [Word; 7] = [
     Word {
         name: Name::Own(AUTH),
         value: "FILE",
@@ -502,6 +502,7 @@ const AUDIT_WORDS: [Word; 6] = [
     },
     PRINTS_JSON,
     FILE_SYSTEM,
+    BY_RELEASE,
 ];
 
 /// All commands.

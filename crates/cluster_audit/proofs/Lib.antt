@@ -3,6 +3,7 @@ pub mod Saying
 pub mod Noting
 pub mod Giving
 pub mod Words
+pub mod Denials
 pub mod Spaces
 pub mod Openings
 pub mod Tells

@@ -9,14 +9,20 @@ use Rattle.capbits.specs.Text.{text_of}
 use Rattle.capspec.specs.declared.fault.SpecFaultKind.{SpecFaultKind}
 use Rattle.capspec.specs.declared.fault.SpecFaultKind.TheVariants as kinds
 use Rattle.capgrant.specs.declared.access.Access.{Access}
-use Rattle.capgrant.specs.declared.rule.Rule.{Rule}
-use Rattle.capgrant.specs.Rule.{rule_number, rule_word}
-use Rattle.texts.specs.Explaining.{failure_text, path_text}
+use Rattle.release_rules.specs.declared.release.Release.{Release}
+use Rattle.release_rules.specs.declared.rule.Rule.{Rule}
+use Rattle.release_rules.specs.Releases.{version_of}
+use Rattle.release_rules.specs.Rules.{rule_number, rule_word}
+use Rattle.texts.specs.Explaining.{path_text}
+use Rattle.texts.specs.Mds.{mds_failure}
 use Rattle.texts.specs.Quoting.{escaped, is_plain, quoted}
 use Rattle.texts.specs.Standing.{fault_word}
 use Rattle.texts.proofs.Quoted.{first_byte}
+use Rattle.cluster_audit.specs.declared.findings.Denial.{Denial}
 use Rattle.cluster_audit.specs.declared.notes.Detail.TheVariants.{Each, Groups}
-use Rattle.cluster_audit.specs.Lines.{holder_text, on_inode, place_text, why_text}
+use Rattle.cluster_audit.specs.Lines.{holder_text, on_inode, place_text, told_text, why_text}
+use Rattle.cluster_audit.specs.Reported.{rules_told}
+use Rattle.cluster_audit.proofs.Denials.{has_told}
 use Rattle.cluster_audit.proofs.Words.{digit_first, is_digit}
 use Rattle.cluster_audit.proofs.Spaces.{behind, past_caps, past_number, past_plain, past_quoted}
 
@@ -147,9 +153,9 @@ of_held p c n caps s small =
     let rest : List ℕ = text_of caps ++ (codes ", may not " ++ s) in
     ap kind_of (place_is p c n (codes " holds " ++ rest)) ∙ named p n small rest c 109 (ap leading (past_caps caps (codes ", may not " ++ s)))
 
-pub of_bad_caps : (p : List (List ℕ)) (c : List ℕ) (n : ℕ) (s : List ℕ) → n < 2 ^ 64 → kind_of (place_text p c n ++ (codes " holds what is not known\n" ++ s)) ≡ 8
-of_bad_caps p c n s small =
-    let rest : List ℕ = codes "what is not known\n" ++ s in
+pub of_unknown : (p : List (List ℕ)) (c : List ℕ) (n : ℕ) (s : List ℕ) → n < 2 ^ 64 → kind_of (place_text p c n ++ (codes " holds what is " ++ s)) ≡ 8
+of_unknown p c n s small =
+    let rest : List ℕ = codes "what is " ++ s in
     ap kind_of (place_is p c n (codes " holds " ++ rest)) ∙ named p n small rest c 105 refl
 
 pub on_path : (p : List (List ℕ)) (m n : ℕ) (name : Option (List ℕ)) (caps : Caps) (s : List ℕ) → n < 2 ^ 64
@@ -168,15 +174,20 @@ on_path p m n (Some c) caps s small =
 grant_first : (one rule n space word more s : List ℕ) → (((((one ++ rule) ++ n) ++ space) ++ word) ++ more) ++ s ≡ one ++ (rule ++ (n ++ (space ++ (word ++ (more ++ s)))))
 grant_first one rule n space word more s = simp append_assoc
 
-pub of_group : (missing : Option Access) (rs : List Rule) (s : List ℕ) → kind_of (why_text missing rs ++ 32 ∷ s) ≡ 2
+of_told : (told : Option (List Rule)) (s : List ℕ) → kind_of (told_text told ++ 32 ∷ s) ≡ 2
 unfolding kind_of
-of_group None rs s = refl
-of_group (Some access) [] s = refl
-of_group (Some access) (r ∷ rs) s =
+of_told None s = refl
+of_told (Some []) s = refl
+of_told (Some (r ∷ rs)) s =
     let n : List ℕ = decimal (rule_number r) in
-    let more : List ℕ = flat_map (λ (f : ℕ × Rule). codes ", " ++ failure_text f) (enumerate_from 2 rs) in
-    at_number (why_text (Some access) (r ∷ rs) ++ 32 ∷ s) 1 (codes " rule " ++ (n ++ (codes " " ++ (rule_word r ++ (more ++ 32 ∷ s))))) (omega arith) refl
+    let more : List ℕ = flat_map (λ (f : ℕ × Rule). codes ", " ++ mds_failure f) (enumerate_from 2 rs) in
+    at_number (told_text (Some (r ∷ rs)) ++ 32 ∷ s) 1 (codes " rule " ++ (n ++ (codes " " ++ (rule_word r ++ (more ++ 32 ∷ s))))) (omega arith) refl
     (grant_first (decimal 1) (codes " rule ") n (codes " ") (rule_word r) more (32 ∷ s))
+
+pub of_group : (missing : Option Access) (d : Denial) (s : List ℕ) → kind_of (why_text missing d ++ 32 ∷ s) ≡ 2
+unfolding kind_of
+of_group None d s = refl
+of_group (Some access) d s = ap (λ (w : List ℕ). kind_of (w ++ 32 ∷ s)) (has_told d) ∙ of_told (rules_told d) s
 
 -- two clients, of which the first tells a name or none
 pub of_conflict_text : (n : ℕ) (name : Option (List ℕ)) (caps : Caps) (s : List ℕ) → n < 2 ^ 64 → kind_of (holder_text Groups n name ++ (codes " holds " ++ (text_of caps ++ (codes " beside " ++ s)))) ≡ 4
@@ -262,6 +273,14 @@ of_unread client k s =
     let one : behind text ≡ rest = past_quoted client (codes ": " ++ rest) in
     let three : word_3 text ≡ codes "at " ++ s = ap (λ (w : List ℕ). behind (behind w)) one ∙ past_plain (fault_word k) (codes " at " ++ s) (plain_fault k) in
     at_word text 103 58 97 (ap leading one) (ap seventh one) (ap leading three) refl refl
+
+pub of_unread_there : (client : List ℕ) (release : Release) (s : List ℕ) → kind_of (quoted client ++ (codes ": grants: not read by Ceph " ++ (version_of release ++ s))) ≡ 7
+of_unread_there client release s =
+    let rest : List ℕ = codes "grants: not read by Ceph " ++ (version_of release ++ s) in
+    let text : List ℕ = quoted client ++ (codes ": " ++ rest) in
+    let one : behind text ≡ rest = past_quoted client (codes ": " ++ rest) in
+    let three : word_3 text ≡ codes "read by Ceph " ++ (version_of release ++ s) = ap (λ (w : List ℕ). behind (behind w)) one in
+    at_word text 103 58 114 (ap leading one) (ap seventh one) (ap leading three) refl refl
 
 -- ---- the last two
 

@@ -5,8 +5,8 @@ use Rattle.std.specs.Prelude.{bytes_eq, find}
 use Rattle.capgrant.specs.declared.access.Attr.{Attr}
 use Rattle.ceph_input.specs.Auth.{Named}
 use Rattle.ceph_input.specs.Dump.{Held, Listed, PathMap}
-use Rattle.cluster_audit.specs.Callers.{Inode, inode}
-use Rattle.cluster_audit.specs.Audited.{AreReports, Clients, IsJudged, IsJudgedBy, SaysOf, SaysOfInode, is_unchecked, name_of, path_of, pathless_of}
+use Rattle.cluster_audit.specs.Callers.{Inode}
+use Rattle.cluster_audit.specs.Audited.{AreReports, Clients, IsJudgedBy, SaysOf, SaysOfInode, is_unchecked, name_of, path_of, pathless_of}
 use Rattle.cluster_audit.specs.Shaped.{unlisted_in, unnamed_in}
 
 pub unnamed : (known : Clients) (number : ℕ) (i : Inode) (h : Held) → name_of known.sessions h.client ≡ None → SaysOf known number i h [] (unnamed_in known.manner.shape h.client)
@@ -16,21 +16,22 @@ module _ (known : Clients) (number : ℕ) (i : Inode) (h : Held) (client : List 
   pub unlisted : find (λ e. bytes_eq e.name client) known.entities ≡ None → SaysOf known number i h [] (unlisted_in known.manner.shape client)
   unlisted none = rw (is, none) (refl, refl)
 
-  pub without_caps : (e : Named) → find (λ e. bytes_eq e.name client) known.entities ≡ Some e → e.caps ≡ None → (found unknown : List ℕ) → IsJudged known.manner number i client (is_unchecked known.sessions h.client) [] h found unknown → SaysOf known number i h found unknown
-  without_caps e listed none found unknown judged = rw (is, listed, none) judged
+  pub listed : (e : Named) → find (λ e. bytes_eq e.name client) known.entities ≡ Some e → (found unknown : List ℕ) → IsJudgedBy known.manner number i client (is_unchecked known.sessions h.client) h e.caps found unknown → SaysOf known number i h found unknown
+  listed e is_listed found unknown judged = rw (is, is_listed) judged
 
-  pub with_caps : (e : Named) → find (λ e. bytes_eq e.name client) known.entities ≡ Some e → (text : List ℕ) → e.caps ≡ Some text → (found unknown : List ℕ) → IsJudgedBy known.manner number i client (is_unchecked known.sessions h.client) h text found unknown → SaysOf known number i h found unknown
-  with_caps e listed text some found unknown judged = rw (is, listed, some) judged
+-- an inode by its names and by the path that they are
+abbrev seen : List ℕ → List (List ℕ) → List (List ℕ) → Attr → Inode
+seen fs names path attr = record { fs = fs; path = names; place = path; attr = attr }
 
 module _ (fs : List ℕ) (known : Clients) (paths : PathMap) (it : Listed) where
   pub without_path : path_of paths it ≡ None → SaysOfInode fs known paths it [] (flat_map (pathless_of known.manner.shape known.sessions it.number) it.holders)
   without_path none = rw none (refl, refl)
 
   pub at_path : (number : ℕ) (path names : List (List ℕ)) (attr : Attr) (holders : List Held) → number ≡ it.number → path_of paths it ≡ Some path → names ≡ path → attr ≡ it.attr → holders ≡ it.holders
-      → (found unknown : List ℕ) → AreReports (SaysOf known number (inode fs names attr)) holders found unknown → SaysOfInode fs known paths it found unknown
+      → (found unknown : List ℕ) → AreReports (SaysOf known number (seen fs names path attr)) holders found unknown → SaysOfInode fs known paths it found unknown
   at_path number path names attr holders is_number leads are_names is_attr are_holders found unknown reports =
       rw leads (
-      subst (λ (p : List (List ℕ)). AreReports (SaysOf known it.number (inode fs p it.attr)) it.holders found unknown) are_names
-      (subst (λ (a : Attr). AreReports (SaysOf known it.number (inode fs names a)) it.holders found unknown) is_attr
-      (subst (λ (hs : List Held). AreReports (SaysOf known it.number (inode fs names attr)) hs found unknown) are_holders
-      (subst (λ (n : ℕ). AreReports (SaysOf known n (inode fs names attr)) holders found unknown) is_number reports))))
+      subst (λ (p : List (List ℕ)). AreReports (SaysOf known it.number (seen fs p path it.attr)) it.holders found unknown) are_names
+      (subst (λ (a : Attr). AreReports (SaysOf known it.number (seen fs names path a)) it.holders found unknown) is_attr
+      (subst (λ (hs : List Held). AreReports (SaysOf known it.number (seen fs names path attr)) hs found unknown) are_holders
+      (subst (λ (n : ℕ). AreReports (SaysOf known n (seen fs names path attr)) holders found unknown) is_number reports))))

@@ -1,5 +1,5 @@
 -- Two lines of an audit that are equal tell the same, and so do two texts, line by line.
-use Rattle.std.proofs.Common.{◌≡◌, ℕ, ◌<◌, ◌^◌, Bool, true, false, Option, Some, None, List, [], ◌∷◌, ◌++◌, refl, sym, ap, ◌∙◌, append_assoc, arith}
+use Rattle.std.proofs.Common.{◌≡◌, ℕ, ◌<◌, ◌^◌, Bool, true, false, Option, Some, None, List, [], ◌∷◌, ◌++◌, ◌+◌, drop, refl, sym, ap, ◌∙◌, append_assoc, arith}
 use Rattle.std.specs.Prelude.{All, codes}
 use Rattle.std.specs.Fmt.{decimal}
 use Rattle.std.specs.List.{flat_map}
@@ -9,23 +9,32 @@ use Rattle.std.proofs.lemmas.List.Elements.{All-head, All-tail}
 use Rattle.capbits.specs.Caps.{Caps}
 use Rattle.capbits.specs.Sets.{minus}
 use Rattle.capbits.specs.Text.{text_of}
-use Rattle.capspec.specs.declared.fault.SpecFault.{SpecFault}
+use Rattle.capspec.specs.declared.fault.SpecFaultKind.{SpecFaultKind}
+use Rattle.capspec.specs.declared.fault.SpecFaultKind.TheVariants as kinds
 use Rattle.cluster_audit.specs.declared.findings.Finding.{Finding}
 use Rattle.cluster_audit.specs.declared.conflict.Conflict.{Conflict}
 use Rattle.texts.specs.Explaining.{path_text}
 use Rattle.texts.specs.Quoting.{quoted}
+use Rattle.release_rules.specs.declared.release.Release.{Release}
+use Rattle.release_rules.specs.declared.release.Release.TheVariants.{Pacific, Reef, Tentacle}
+use Rattle.release_rules.specs.Releases.{version_of}
 use Rattle.texts.specs.Standing.{fault_word, unread_line}
 use Rattle.texts.proofs.Clients.{one_fault}
 use Rattle.texts.proofs.Quoted.{bare, before_a_line_feed, before_a_space, before_word, clash, first_byte}
+use Rattle.cluster_audit.specs.declared.grants_by.Unreadable.{Unreadable}
+use Rattle.cluster_audit.specs.declared.grants_by.Unreadable.TheVariants as unreadable
 use Rattle.cluster_audit.specs.declared.notes.Detail.TheVariants.{Each, Groups}
+use Rattle.cluster_audit.specs.declared.unjudged.Unknown.{Unknown}
+use Rattle.cluster_audit.specs.declared.unjudged.Unknown.TheVariants.{Address, Spelling}
 use Rattle.cluster_audit.specs.declared.summary.Counts.{Counts}
-use Rattle.cluster_audit.specs.Lines.{holder_text, on_inode, place_text, revoked_text, unjudged_text, who_text, why_text}
+use Rattle.cluster_audit.specs.Lines.{holder_text, on_inode, place_text, revoked_text, unjudged_text, unknown_text, who_text, why_text}
 use Rattle.cluster_audit.specs.Reported.{AllTellTheSame, AreCounts, HasNumbers, IsOneClient, IsOneInode, Line, TellTheSame, line_text}
 use Rattle.cluster_audit.specs.Reported as reported
-use Rattle.cluster_audit.proofs.Words.{before_why, is_digit, no_number, number, one_caps, one_revoked, one_why}
+use Rattle.cluster_audit.proofs.Denials.{one_why}
+use Rattle.cluster_audit.proofs.Words.{before_why, is_digit, no_number, number, one_caps, one_revoked}
 use Rattle.cluster_audit.proofs.Spaces.{behind, past_quoted}
-use Rattle.cluster_audit.proofs.Openings.{kind_of, none, of_bad_caps, of_conflict_text, of_group, of_held, of_nothing, of_pathless, of_renamed, of_summary, of_unlinked, of_unlisted}
-use Rattle.cluster_audit.proofs.Openings.{of_unnamed, of_unread, on_number, on_path, opening, opening_path, place_is, plain_fault}
+use Rattle.cluster_audit.proofs.Openings.{kind_of, none, of_conflict_text, of_group, of_held, of_nothing, of_pathless, of_renamed, of_summary, of_unknown, of_unlinked, of_unlisted}
+use Rattle.cluster_audit.proofs.Openings.{of_unnamed, of_unread, of_unread_there, on_number, on_path, opening, opening_path, place_is, plain_fault}
 
 -- ---- a line and what stands behind it, part by part
 
@@ -48,22 +57,31 @@ abbrev from_entries : Counts → List ℕ → List ℕ
 from_entries n s = codes ", entries " ++ (decimal n.entries ++ from_sessions n s)
 
 abbrev from_why : Finding → Bool → List ℕ → List ℕ
-from_why f u s = why_text f.missing f.rules ++ (unjudged_text u ++ 10 ∷ s)
+from_why f u s = why_text f.missing f.denial ++ (unjudged_text u ++ 10 ∷ s)
 
 abbrev from_beyond_caps : Caps → Finding → Bool → List ℕ → List ℕ
 from_beyond_caps x f u s = revoked_text (minus f.caps x) ++ (codes ": " ++ from_why f u s)
 
+-- why grants can't be read, and how many bytes of their text stand before that
+abbrev wrong_word : Unreadable → List ℕ
+wrong_word (unreadable.Own fault) = fault_word fault.kind
+wrong_word (unreadable.There release at) = codes "not read by Ceph " ++ version_of release
+
+abbrev wrong_at : Unreadable → ℕ
+wrong_at (unreadable.Own fault) = fault.at
+wrong_at (unreadable.There release at) = at
+
 abbrev laid : Line → List ℕ → List ℕ
 laid (reported.held k p c n i x f u) s = place_text p c n ++ (codes " holds " ++ (text_of i ++ (codes ", may not " ++ (text_of f.caps ++ from_beyond_caps x f u s))))
-laid (reported.group c f n) s = why_text f.missing f.rules ++ 32 ∷ (quoted c ++ (codes ": " ++ (decimal n ++ 10 ∷ s)))
+laid (reported.group c f n) s = why_text f.missing f.denial ++ 32 ∷ (quoted c ++ (codes ": " ++ (decimal n ++ 10 ∷ s)))
 laid (reported.conflict m p a b c) s = on_inode Each m p ++ (holder_text Each c.one.client a ++ 32 ∷ holds c (holder_text Each c.other.client b ++ 10 ∷ s))
 laid (reported.conflict_group a b c n) s = holder_text Groups c.one.client a ++ 32 ∷ holds c (holder_text Groups c.other.client b ++ (codes ": " ++ (decimal n ++ 10 ∷ s)))
 laid (reported.renamed n c a) s = codes "session " ++ (decimal n ++ (codes ": " ++ (quoted c ++ (codes " calls itself " ++ (quoted a ++ 10 ∷ s)))))
 laid (reported.unlinked n p) s = codes "inode " ++ (decimal n ++ (codes ": unlinked, judged as " ++ (quoted (path_text p) ++ 10 ∷ s)))
 laid (reported.unnamed n) s = codes "client " ++ (decimal n ++ (codes ": no session names it\n" ++ s))
 laid (reported.unlisted c) s = quoted c ++ (codes ": no entry in the auth list\n" ++ s)
-laid (reported.unread c f) s = quoted c ++ (codes ": grants: " ++ (fault_word f.kind ++ (codes " at " ++ (decimal f.at ++ 10 ∷ s))))
-laid (reported.bad_caps k p c n) s = place_text p c n ++ (codes " holds what is not known\n" ++ s)
+laid (reported.unread c w) s = quoted c ++ (codes ": grants: " ++ (wrong_word w ++ (codes " at " ++ (decimal (wrong_at w) ++ 10 ∷ s))))
+laid (reported.unknown w k p c n) s = place_text p c n ++ (codes " holds what is " ++ (unknown_text w ++ s))
 laid (reported.pathless k c n i) s = codes "inode " ++ (decimal k ++ (codes ": no path: " ++ (who_text c n ++ (codes " holds " ++ (quoted i ++ 10 ∷ s)))))
 laid reported.nothing s = codes "nothing found\n" ++ s
 laid (reported.summary n) s = codes "inodes " ++ (decimal n.inodes ++ from_entries n s)
@@ -93,6 +111,12 @@ unnamed_apart n s = simp append_assoc
 unread_apart : (c k n s : List ℕ) → (c ++ (codes ": grants: " ++ (k ++ (codes " at " ++ (n ++ codes "\n"))))) ++ s ≡ c ++ (codes ": grants: " ++ (k ++ (codes " at " ++ (n ++ 10 ∷ s))))
 unread_apart c k n s = simp append_assoc
 
+not_read_apart : (c v n s : List ℕ) → (c ++ (codes ": grants: not read by Ceph " ++ (v ++ (codes " at " ++ (n ++ codes "\n"))))) ++ s ≡ c ++ (codes ": grants: " ++ ((codes "not read by Ceph " ++ v) ++ (codes " at " ++ (n ++ 10 ∷ s))))
+not_read_apart c v n s = simp append_assoc
+
+unknown_apart : (p w s : List ℕ) → (p ++ (codes " holds what is " ++ w)) ++ s ≡ p ++ (codes " holds what is " ++ (w ++ s))
+unknown_apart p w s = simp append_assoc
+
 pathless_apart : (k w i s : List ℕ) → (codes "inode " ++ (k ++ (codes ": no path: " ++ (w ++ (codes " holds " ++ (i ++ codes "\n")))))) ++ s ≡ codes "inode " ++ (k ++ (codes ": no path: " ++ (w ++ (codes " holds " ++ (i ++ 10 ∷ s)))))
 pathless_apart k w i s = simp append_assoc
 
@@ -102,16 +126,17 @@ summary_apart : (a b c d e f s : List ℕ)
 summary_apart a b c d e f s = simp append_assoc
 
 laid_out : (l : Line) (s : List ℕ) → line_text l ++ s ≡ laid l s
-laid_out (reported.held k p c n i x f u) s = held_apart (place_text p c n) (text_of i) (text_of f.caps) (revoked_text (minus f.caps x)) (why_text f.missing f.rules) (unjudged_text u) s
-laid_out (reported.group c f n) s = group_apart (why_text f.missing f.rules) (quoted c) (decimal n) s
+laid_out (reported.held k p c n i x f u) s = held_apart (place_text p c n) (text_of i) (text_of f.caps) (revoked_text (minus f.caps x)) (why_text f.missing f.denial) (unjudged_text u) s
+laid_out (reported.group c f n) s = group_apart (why_text f.missing f.denial) (quoted c) (decimal n) s
 laid_out (reported.conflict m p a b c) s = conflict_apart (on_inode Each m p) (holder_text Each c.one.client a) (text_of c.one.caps) (text_of c.other.caps) (holder_text Each c.other.client b) s
 laid_out (reported.conflict_group a b c n) s = conflict_groups_apart (holder_text Groups c.one.client a) (text_of c.one.caps) (text_of c.other.caps) (holder_text Groups c.other.client b) (decimal n) s
 laid_out (reported.renamed n c a) s = renamed_apart (decimal n) (quoted c) (quoted a) s
 laid_out (reported.unlinked n p) s = unlinked_apart (decimal n) (quoted (path_text p)) s
 laid_out (reported.unnamed n) s = unnamed_apart (decimal n) s
 laid_out (reported.unlisted c) s = append_assoc (quoted c) (codes ": no entry in the auth list\n") s
-laid_out (reported.unread c f) s = unread_apart (quoted c) (fault_word f.kind) (decimal f.at) s
-laid_out (reported.bad_caps k p c n) s = append_assoc (place_text p c n) (codes " holds what is not known\n") s
+laid_out (reported.unread c (unreadable.Own f)) s = unread_apart (quoted c) (fault_word f.kind) (decimal f.at) s
+laid_out (reported.unread c (unreadable.There r at)) s = not_read_apart (quoted c) (version_of r) (decimal at) s
+laid_out (reported.unknown w k p c n) s = unknown_apart (place_text p c n) (unknown_text w) s
 laid_out (reported.pathless k c n i) s = pathless_apart (decimal k) (who_text c n) (quoted i) s
 laid_out reported.nothing s = refl
 laid_out (reported.summary n) s = summary_apart (decimal n.inodes) (decimal n.entries) (decimal n.sessions) (decimal n.held_beyond) (decimal n.conflicts) (decimal n.not_judged) s
@@ -125,8 +150,8 @@ kind (reported.conflict m p a b c) = 3
 kind (reported.conflict_group a b c n) = 4
 kind (reported.unnamed n) = 5
 kind (reported.unlisted c) = 6
-kind (reported.unread c f) = 7
-kind (reported.bad_caps k p c n) = 8
+kind (reported.unread c w) = 7
+kind (reported.unknown w k p c n) = 8
 kind (reported.pathless k c n i) = 9
 kind reported.nothing = 10
 kind (reported.summary n) = 11
@@ -139,7 +164,7 @@ some_kind l = omega arith
 
 kind_is : (l : Line) (s : List ℕ) → HasNumbers l → kind_of (laid l s) ≡ kind l
 kind_is (reported.held k p c n i x f u) s small = of_held p c n i (text_of f.caps ++ from_beyond_caps x f u s) small
-kind_is (reported.group c f n) s small = of_group f.missing f.rules (quoted c ++ (codes ": " ++ (decimal n ++ 10 ∷ s)))
+kind_is (reported.group c f n) s small = of_group f.missing f.denial (quoted c ++ (codes ": " ++ (decimal n ++ 10 ∷ s)))
 kind_is (reported.conflict m None a b c) s small =
     let rest : List ℕ = 32 ∷ holds c (holder_text Each c.other.client b ++ 10 ∷ s) in
     ap (λ (w : List ℕ). kind_of (codes "inode " ++ w)) (append_assoc (decimal m) (codes " ") (holder_text Each c.one.client a ++ rest)) ∙ on_number m c.one.client a rest small.0 small.1
@@ -149,8 +174,9 @@ kind_is (reported.renamed n c a) s small = of_renamed n (quoted c ++ (codes " ca
 kind_is (reported.unlinked n p) s small = of_unlinked n (quoted (path_text p) ++ 10 ∷ s) small
 kind_is (reported.unnamed n) s small = of_unnamed n s small
 kind_is (reported.unlisted c) s small = of_unlisted c s
-kind_is (reported.unread c f) s small = of_unread c f.kind (decimal f.at ++ 10 ∷ s)
-kind_is (reported.bad_caps k p c n) s small = of_bad_caps p c n s small
+kind_is (reported.unread c (unreadable.Own f)) s small = of_unread c f.kind (decimal f.at ++ 10 ∷ s)
+kind_is (reported.unread c (unreadable.There r at)) s small = of_unread_there c r (codes " at " ++ (decimal at ++ 10 ∷ s))
+kind_is (reported.unknown w k p c n) s small = of_unknown p c n (unknown_text w ++ s) small
 kind_is (reported.pathless k c n i) s small = of_pathless k (who_text c n ++ (codes " holds " ++ (quoted i ++ 10 ∷ s))) small.0
 kind_is reported.nothing s small = of_nothing s
 kind_is (reported.summary n) s small = of_summary n.inodes (from_entries n s) small.inodes
@@ -263,7 +289,7 @@ one_held p q c d m n i j x y f g a b s t small also same =
     let issued = one_caps i j (codes ", may not " ++ u) (codes ", may not " ++ v) refl refl (append_cancel_left (codes " holds ") (text_of i ++ (codes ", may not " ++ u)) (text_of j ++ (codes ", may not " ++ v)) place.3) in
     let beyond = one_caps f.caps g.caps (from_beyond_caps x f a s) (from_beyond_caps y g b t) (before_why (minus f.caps x) (32 ∷ from_why f a s)) (before_why (minus g.caps y) (32 ∷ from_why g b t)) (append_cancel_left (codes ", may not ") u v issued.1) in
     let revoked = one_revoked (minus f.caps x) (minus g.caps y) (32 ∷ from_why f a s) (32 ∷ from_why g b t) beyond.1 in
-    let why = one_why f.missing g.missing f.rules g.rules (unjudged_text a ++ 10 ∷ s) (unjudged_text b ++ 10 ∷ t) (end_begins a s) (end_begins b t) (append_cancel_left (codes " ") (from_why f a s) (from_why g b t) revoked.1) in
+    let why = one_why f.missing g.missing f.denial g.denial (unjudged_text a ++ 10 ∷ s) (unjudged_text b ++ 10 ∷ t) (end_begins a s) (end_begins b t) (append_cancel_left (codes " ") (from_why f a s) (from_why g b t) revoked.1) in
     let end = one_end a b s t why.1 in
     ((place.0, place.1, place.2, issued.0, beyond.0, revoked.0, why.0, end.0), end.1)
 
@@ -271,7 +297,7 @@ one_group : (c d : List ℕ) (f g : Finding) (m n : ℕ) (s t : List ℕ) → m 
 one_group c d f g m n s t small also same =
     let u : List ℕ = quoted c ++ (codes ": " ++ (decimal m ++ 10 ∷ s)) in
     let v : List ℕ = quoted d ++ (codes ": " ++ (decimal n ++ 10 ∷ t)) in
-    let why = one_why f.missing g.missing f.rules g.rules (32 ∷ u) (32 ∷ v) (omega arith) (omega arith) same in
+    let why = one_why f.missing g.missing f.denial g.denial (32 ∷ u) (32 ∷ v) (omega arith) (omega arith) same in
     let name = before_word (codes ":") c d (decimal m ++ 10 ∷ s) (decimal n ++ 10 ∷ t) refl (append_cancel_left (codes " ") u v why.1) in
     let count = last_number m n s t small also name.1 in
     ((why.0, name.0, count.0), count.1)
@@ -330,23 +356,84 @@ one_unlisted c d s t same =
     let both = before_word (codes ":") c d (codes "no entry in the auth list\n" ++ s) (codes "no entry in the auth list\n" ++ t) refl same in
     (both.0, append_cancel_left (codes "no entry in the auth list\n") s t both.1)
 
-one_unread : (c d : List ℕ) (f g : SpecFault) (s t : List ℕ) → f.at < 2 ^ 64 → g.at < 2 ^ 64 → laid (reported.unread c f) s ≡ laid (reported.unread d g) t → TellTheSame (reported.unread c f) (reported.unread d g) × (s ≡ t)
-one_unread c d f g s t small also same =
-    let u : List ℕ = codes "at " ++ (decimal f.at ++ 10 ∷ s) in
-    let v : List ℕ = codes "at " ++ (decimal g.at ++ 10 ∷ t) in
-    let name = before_word (codes ":") c d (codes "grants: " ++ (fault_word f.kind ++ 32 ∷ u)) (codes "grants: " ++ (fault_word g.kind ++ 32 ∷ v)) refl same in
-    let word = bare (fault_word f.kind) (fault_word g.kind) u v (plain_fault f.kind) (plain_fault g.kind) (append_cancel_left (codes "grants: ") (fault_word f.kind ++ 32 ∷ u) (fault_word g.kind ++ 32 ∷ v) name.1) in
-    let place = last_number f.at g.at s t small also (append_cancel_left (codes "at ") (decimal f.at ++ 10 ∷ s) (decimal g.at ++ 10 ∷ t) word.1) in
-    let one_word : fault_word f.kind ≡ fault_word g.kind = word.0 in
-    let one_at : f.at ≡ g.at = place.0 in
-    let line : unread_line [] f ≡ unread_line [] g = λ i. quoted [] ++ (codes ": grants: " ++ (one_word i ++ (codes " at " ++ (decimal (one_at i) ++ codes "\n")))) in
-    ((name.0, (one_fault [] [] f g small also line).1), place.1)
+-- the version by its second byte, and the first
+abbrev release_at : List ℕ → ℕ
+release_at text = first_byte text + first_byte (drop 1 text)
 
-one_bad_caps : (p q : List (List ℕ)) (c d : List ℕ) (m n : ℕ) (s t : List ℕ) → m < 2 ^ 64 → n < 2 ^ 64 → laid (reported.bad_caps 0 p c m) s ≡ laid (reported.bad_caps 0 q d n) t
-    → TellTheSame (reported.bad_caps 0 p c m) (reported.bad_caps 0 q d n) × (s ≡ t)
-one_bad_caps p q c d m n s t small also same =
-    let place = one_place p q c d m n (codes " holds what is not known\n" ++ s) (codes " holds what is not known\n" ++ t) small also refl refl same in
-    ((place.0, place.1, place.2), append_cancel_left (codes " holds what is not known\n") s t place.3)
+one_version : (a b : Release) (s t : List ℕ) → version_of a ++ 32 ∷ s ≡ version_of b ++ 32 ∷ t → (a ≡ b) × (s ≡ t)
+one_version Pacific Pacific s t same = (refl, append_cancel_left (codes "16.2.15 ") s t same)
+one_version Pacific Reef s t same = clash 103 105 (omega arith) (ap release_at same)
+one_version Pacific Tentacle s t same = clash 98 103 (omega arith) (sym (ap release_at same))
+one_version Reef Pacific s t same = clash 103 105 (omega arith) (sym (ap release_at same))
+one_version Reef Reef s t same = (refl, append_cancel_left (codes "18.2.7 ") s t same)
+one_version Reef Tentacle s t same = clash 98 105 (omega arith) (sym (ap release_at same))
+one_version Tentacle Pacific s t same = clash 98 103 (omega arith) (ap release_at same)
+one_version Tentacle Reef s t same = clash 98 105 (omega arith) (ap release_at same)
+one_version Tentacle Tentacle s t same = (refl, append_cancel_left (codes "20.2.4 ") s t same)
+
+-- behind the word for a fault stands how many bytes are read
+abbrev from_at : ℕ → List ℕ → List ℕ
+from_at at s = codes "at " ++ (decimal at ++ 10 ∷ s)
+
+one_at : (m n : ℕ) (s t : List ℕ) → m < 2 ^ 64 → n < 2 ^ 64 → from_at m s ≡ from_at n t → (m ≡ n) × (s ≡ t)
+one_at m n s t small also same = last_number m n s t small also (append_cancel_left (codes "at ") (decimal m ++ 10 ∷ s) (decimal n ++ 10 ∷ t) same)
+
+-- faults of this server begin with a capital
+no_fault : {X : Type 0} (k : SpecFaultKind) (s t : List ℕ) → fault_word k ++ s ≡ codes "not read by Ceph " ++ t → X
+no_fault kinds.Empty s t same = clash 69 110 (omega arith) (ap first_byte same)
+no_fault kinds.NotAllow s t same = clash 78 110 (omega arith) (ap first_byte same)
+no_fault kinds.BadFlags s t same = clash 66 110 (omega arith) (ap first_byte same)
+no_fault kinds.BadItem s t same = clash 66 110 (omega arith) (ap first_byte same)
+no_fault kinds.Twice s t same = clash 84 110 (omega arith) (ap first_byte same)
+no_fault kinds.BadNumber s t same = clash 66 110 (omega arith) (ap first_byte same)
+no_fault kinds.OpenQuote s t same = clash 79 110 (omega arith) (ap first_byte same)
+no_fault kinds.GidsWithoutUid s t same = clash 71 110 (omega arith) (ap first_byte same)
+no_fault kinds.LeftOut s t same = clash 76 110 (omega arith) (ap first_byte same)
+no_fault kinds.TooMany s t same = clash 84 110 (omega arith) (ap first_byte same)
+no_fault kinds.BadPath s t same = clash 66 110 (omega arith) (ap first_byte same)
+no_fault kinds.NoMemory s t same = clash 78 110 (omega arith) (ap first_byte same)
+
+one_wrong : (v w : Unreadable) (s t : List ℕ) → wrong_at v < 2 ^ 64 → wrong_at w < 2 ^ 64 → wrong_word v ++ 32 ∷ from_at (wrong_at v) s ≡ wrong_word w ++ 32 ∷ from_at (wrong_at w) t → (v ≡ w) × (s ≡ t)
+one_wrong (unreadable.Own f) (unreadable.Own g) s t small also same =
+    let word = bare (fault_word f.kind) (fault_word g.kind) (from_at f.at s) (from_at g.at t) (plain_fault f.kind) (plain_fault g.kind) same in
+    let place = one_at f.at g.at s t small also word.1 in
+    let one_word : fault_word f.kind ≡ fault_word g.kind = word.0 in
+    let one_place : f.at ≡ g.at = place.0 in
+    let line : unread_line [] f ≡ unread_line [] g = λ i. quoted [] ++ (codes ": grants: " ++ (one_word i ++ (codes " at " ++ (decimal (one_place i) ++ codes "\n")))) in
+    (ap unreadable.Own (one_fault [] [] f g small also line).1, place.1)
+one_wrong (unreadable.Own f) (unreadable.There b n) s t small also same = no_fault f.kind (32 ∷ from_at f.at s) (version_of b ++ 32 ∷ from_at n t) same
+one_wrong (unreadable.There a m) (unreadable.Own g) s t small also same = no_fault g.kind (32 ∷ from_at g.at t) (version_of a ++ 32 ∷ from_at m s) (sym same)
+one_wrong (unreadable.There a m) (unreadable.There b n) s t small also same =
+    let release = one_version a b (from_at m s) (from_at n t) (append_cancel_left (codes "not read by Ceph ") (version_of a ++ 32 ∷ from_at m s) (version_of b ++ 32 ∷ from_at n t) same) in
+    let place = one_at m n s t small also release.1 in
+    let one_release : a ≡ b = release.0 in
+    let one_place : m ≡ n = place.0 in
+    (λ i. unreadable.There (one_release i) (one_place i), place.1)
+
+at_most : (c : List ℕ) (w : Unreadable) → HasNumbers (reported.unread c w) → wrong_at w < 2 ^ 64
+at_most c (unreadable.Own f) small = small
+at_most c (unreadable.There r at) small = small
+
+one_unread : (c d : List ℕ) (v w : Unreadable) (s t : List ℕ) → HasNumbers (reported.unread c v) → HasNumbers (reported.unread d w) → laid (reported.unread c v) s ≡ laid (reported.unread d w) t → TellTheSame (reported.unread c v) (reported.unread d w) × (s ≡ t)
+one_unread c d v w s t small also same =
+    let u : List ℕ = wrong_word v ++ 32 ∷ from_at (wrong_at v) s in
+    let x : List ℕ = wrong_word w ++ 32 ∷ from_at (wrong_at w) t in
+    let name = before_word (codes ":") c d (codes "grants: " ++ u) (codes "grants: " ++ x) refl same in
+    let wrong = one_wrong v w s t (at_most c v small) (at_most d w also) (append_cancel_left (codes "grants: ") u x name.1) in
+    ((name.0, wrong.0), wrong.1)
+
+one_unknown_text : (a b : Unknown) (s t : List ℕ) → unknown_text a ++ s ≡ unknown_text b ++ t → (a ≡ b) × (s ≡ t)
+one_unknown_text Spelling Spelling s t same = (refl, append_cancel_left (codes "not known\n") s t same)
+one_unknown_text Spelling Address s t same = clash 110 112 (omega arith) (ap first_byte same)
+one_unknown_text Address Spelling s t same = clash 110 112 (omega arith) (sym (ap first_byte same))
+one_unknown_text Address Address s t same = (refl, append_cancel_left (codes "permitted from some addresses alone\n") s t same)
+
+one_unknown : (a b : Unknown) (p q : List (List ℕ)) (c d : List ℕ) (m n : ℕ) (s t : List ℕ) → m < 2 ^ 64 → n < 2 ^ 64 → laid (reported.unknown a 0 p c m) s ≡ laid (reported.unknown b 0 q d n) t
+    → TellTheSame (reported.unknown a 0 p c m) (reported.unknown b 0 q d n) × (s ≡ t)
+one_unknown a b p q c d m n s t small also same =
+    let place = one_place p q c d m n (codes " holds what is " ++ (unknown_text a ++ s)) (codes " holds what is " ++ (unknown_text b ++ t)) small also refl refl same in
+    let unknown = one_unknown_text a b s t (append_cancel_left (codes " holds what is ") (unknown_text a ++ s) (unknown_text b ++ t) place.3) in
+    ((unknown.0, place.0, place.1, place.2), unknown.1)
 
 one_pathless : (k l : ℕ) (c d : List ℕ) (m n : ℕ) (i j s t : List ℕ) → HasNumbers (reported.pathless k c m i) → HasNumbers (reported.pathless l d n j) → laid (reported.pathless k c m i) s ≡ laid (reported.pathless l d n j) t
     → TellTheSame (reported.pathless k c m i) (reported.pathless l d n j) × (s ≡ t)
@@ -389,8 +476,8 @@ of_kind (reported.renamed m c a) (reported.renamed n d b) s t e small also same 
 of_kind (reported.unlinked m p) (reported.unlinked n q) s t e small also same = one_unlinked m n p q s t small also same
 of_kind (reported.unnamed m) (reported.unnamed n) s t e small also same = one_unnamed m n s t small also same
 of_kind (reported.unlisted c) (reported.unlisted d) s t e small also same = one_unlisted c d s t same
-of_kind (reported.unread c f) (reported.unread d g) s t e small also same = one_unread c d f g s t small also same
-of_kind (reported.bad_caps k p c m) (reported.bad_caps l q d n) s t e small also same = one_bad_caps p q c d m n s t small also same
+of_kind (reported.unread c v) (reported.unread d w) s t e small also same = one_unread c d v w s t small also same
+of_kind (reported.unknown a k p c m) (reported.unknown b l q d n) s t e small also same = one_unknown a b p q c d m n s t small also same
 of_kind (reported.pathless k c m i) (reported.pathless l d n j) s t e small also same = one_pathless k l c d m n i j s t small also same
 of_kind reported.nothing reported.nothing s t e small also same = (tt, append_cancel_left (codes "nothing found\n") s t same)
 of_kind (reported.summary m) (reported.summary n) s t e small also same = one_summary m n s t small also same

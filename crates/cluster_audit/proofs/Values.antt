@@ -1,13 +1,13 @@
 -- Objects of an audit that are equal tell the same.
 use Rattle.std.proofs.Common.{◌≡◌, ℕ, zero, suc, ◌<◌, ◌==◌, ◌&&◌, Bool, true, false, cond, nat_lt, inl, inr, Option, Some, None, List, [], ◌∷◌, ◌++◌, refl, sym, ap}
 use Rattle.std.proofs.Common.{◌∙◌, arith}
-use Rattle.std.specs.Prelude.{IfSome, bytes_eq, codes, if◌then◌else◌}
+use Rattle.std.specs.Prelude.{◌||◌, IfSome, bytes_eq, codes, if◌then◌else◌}
 use Rattle.std.specs.Fmt.{decimal}
 use Rattle.std.specs.List.{list_all}
 use Rattle.std.specs.Str.{is_utf8}
 use Rattle.std.proofs.lemmas.Bool.{and_parts, eqb-false, eqb-true, ltb-true, or_cases}
 use Rattle.hex.specs.Hex.{IsBytes}
-use Rattle.serde_json.specs.Data.{Data, array, null}
+use Rattle.serde_json.specs.Data.{Data, null}
 use Rattle.capbits.specs.Caps.{Caps}
 use Rattle.capbits.specs.Sets.{is_empty, minus}
 use Rattle.capbits.specs.Text.{text_of}
@@ -15,8 +15,10 @@ use Rattle.capbits.proofs.Emptiness.{is_empty-no_caps}
 use Rattle.capbits.proofs.Following.{text_of-injective}
 use Rattle.capspec.specs.declared.fault.SpecFault.{SpecFault}
 use Rattle.capspec.specs.declared.fault.SpecFaultKind.{SpecFaultKind}
+use Rattle.release_rules.specs.declared.release.Release.{Release}
+use Rattle.release_rules.specs.declared.release.Release.TheVariants.{Pacific, Reef, Tentacle}
+use Rattle.release_rules.specs.Releases.{version_of}
 use Rattle.capgrant.specs.declared.access.Access.{Access}
-use Rattle.capgrant.specs.declared.rule.Rule.{Rule}
 use Rattle.cluster_audit.specs.declared.findings.Finding.{Finding}
 use Rattle.cluster_audit.specs.declared.conflict.Conflict.{Conflict}
 use Rattle.texts.specs.Explaining.{path_text}
@@ -24,17 +26,23 @@ use Rattle.texts.specs.Lines.{HasNumber}
 use Rattle.texts.specs.Quoting.{quoted}
 use Rattle.texts.specs.Standing.{fault_word, unread_line}
 use Rattle.texts.proofs.Clients.{one_fault}
-use Rattle.texts.proofs.Quoted.{clash}
+use Rattle.texts.proofs.Quoted.{clash, first_byte}
 use Rattle.texts.specs.Values.{bytes_value, or_null}
 use Rattle.texts.proofs.Answered.{one_access}
-use Rattle.texts.proofs.Distinct.{number_in, one_row, some_in, text_in, value_at}
+use Rattle.texts.proofs.Distinct.{number_in, some_in, text_in, value_at}
+use Rattle.texts.proofs.MdsDistinct.{asked_of, has_version}
 use Rattle.texts.proofs.Spelling.{one_spelling}
+use Rattle.cluster_audit.specs.declared.grants_by.Unreadable.{Unreadable}
+use Rattle.cluster_audit.specs.declared.grants_by.Unreadable.TheVariants as unreadable
 use Rattle.cluster_audit.specs.declared.notes.Detail.TheVariants.{Groups}
+use Rattle.cluster_audit.specs.declared.unjudged.Unknown.{Unknown}
+use Rattle.cluster_audit.specs.declared.unjudged.Unknown.TheVariants.{Address, Spelling}
 use Rattle.cluster_audit.specs.declared.summary.Counts.{Counts}
 use Rattle.cluster_audit.specs.Instead.{HasBytes, TellMore, value_of}
-use Rattle.cluster_audit.specs.Objects.{access_value, caps_or_null, caps_value, path_value, session_value, unjudged_value, why_value}
-use Rattle.cluster_audit.specs.Reported.{IsOneClient, IsOneInode, Line, TellTheSame, reasons}
+use Rattle.cluster_audit.specs.Objects.{access_value, caps_or_null, caps_value, path_value, session_value, unjudged_value, unknown_word}
+use Rattle.cluster_audit.specs.Reported.{IsOneClient, IsOneInode, Line, TellTheSame}
 use Rattle.cluster_audit.specs.Reported as reported
+use Rattle.cluster_audit.proofs.Denials.{one_why_value}
 use Rattle.cluster_audit.proofs.Tells.{kind}
 use Rattle.cluster_audit.proofs.Words.{are_letters, is_letter}
 
@@ -98,16 +106,6 @@ one_client m n (Some c) (Some d) fit fits name number = one_spelling c d fit fit
 
 -- ---- reasons
 
-abbrev is_list : Data → ℕ
-is_list (array items) = 1
-is_list d = 0
-
-one_why : (m n : Option Access) (rs qs : List Rule) → why_value m rs ≡ why_value n qs → reasons m rs ≡ reasons n qs
-one_why None None rs qs same = refl
-one_why None (Some b) rs qs same = clash 0 1 (omega arith) (ap is_list same)
-one_why (Some a) None rs qs same = clash 0 1 (omega arith) (sym (ap is_list same))
-one_why (Some a) (Some b) rs qs same = ap Some (one_row 1 rs qs same)
-
 one_missing : (a b : Option Access) → IfSome a HasNumber → IfSome b HasNumber → or_null access_value a ≡ or_null access_value b → a ≡ b
 one_missing None None fit fits same = refl
 one_missing None (Some b) fit fits same = clash 0 1 (omega arith) (ap some_in same)
@@ -134,7 +132,7 @@ abbrev by_word : List ℕ → List ℕ → ℕ
 by_word word each =
     if bytes_eq word (codes "held-beyond") then 1 else (if bytes_eq word (codes "group") then (if bytes_eq each (codes "conflict") then 4 else 2)
     else (if bytes_eq word (codes "conflict") then 3 else (if bytes_eq word (codes "no-session") then 5 else (if bytes_eq word (codes "no-entry") then 6
-    else (if bytes_eq word (codes "unread") then 7 else (if bytes_eq word (codes "unknown-caps") then 8 else (if bytes_eq word (codes "no-path") then 9
+    else (if bytes_eq word (codes "unread") then 7 else (if bytes_eq word (codes "unknown-caps") || bytes_eq word (codes "depends-on-address") then 8 else (if bytes_eq word (codes "no-path") then 9
     else (if bytes_eq word (codes "summary") then 11 else (if bytes_eq word (codes "other-name") then 12 else (if bytes_eq word (codes "unlinked") then 13 else 10))))))))))
 
 -- null where there is none
@@ -147,6 +145,10 @@ kind_in d = by_word (text_in (value_at (codes "kind") d)) (text_in (value_at (co
 kind_is : (l : Line) → kind_in (data_of (value_of l)) ≡ kind l
 unfolding kind_in
 kind_is (reported.held k p c n i x f u) = refl
+kind_is (reported.unread c (unreadable.Own f)) = refl
+kind_is (reported.unread c (unreadable.There r at)) = refl
+kind_is (reported.unknown Spelling k p c n) = refl
+kind_is (reported.unknown Address k p c n) = refl
 kind_is l = refl
 
 -- ---- two objects of one kind
@@ -170,7 +172,7 @@ one_held k l p q c d m n i j x y f g a b fit fits same = (
     one_set i j (ap (at_key (codes "holds")) same),
     one_set f.caps g.caps (ap (at_key (codes "may_not")) same),
     one_set_or_none (minus f.caps x) (minus g.caps y) (ap (at_key (codes "being_revoked")) same),
-    one_why f.missing g.missing f.rules g.rules (ap (at_key (codes "rules")) same),
+    one_why_value f.missing g.missing f.denial g.denial (ap (at_key (codes "rules")) same),
     one_unjudged a b (ap (number_at (codes "unjudged_from")) same),
   ),
   (ap (number_at (codes "inode")) same, one_missing f.missing g.missing fit.2 fits.2 (ap (at_key (codes "missing")) same)),
@@ -178,7 +180,7 @@ one_held k l p q c d m n i j x y f g a b fit fits same = (
 
 one_group : (c d : List ℕ) (f g : Finding) (m n : ℕ) → IsBytes c → IsBytes d → value_of (reported.group c f m) ≡ value_of (reported.group d g n) → TellTheSame (reported.group c f m) (reported.group d g n)
 one_group c d f g m n fit fits same = (
-  one_why f.missing g.missing f.rules g.rules (ap (at_each (codes "rules")) same),
+  one_why_value f.missing g.missing f.denial g.denial (ap (at_each (codes "rules")) same),
   one_spelling c d fit fits (ap (at_each (codes "client")) same),
   ap (number_at (codes "count")) same,
 )
@@ -223,16 +225,38 @@ one_unlinked : (m n : ℕ) (p q : List (List ℕ)) → HasBytes (reported.unlink
     → TellTheSame (reported.unlinked m p) (reported.unlinked n q)
 one_unlinked m n p q fit fits same = (ap (number_at (codes "inode")) same, one_spelling (path_text p) (path_text q) fit fits (ap (at_key (codes "path")) same))
 
-one_unread : (c d : List ℕ) (f g : SpecFault) → IsBytes c → IsBytes d → value_of (reported.unread c f) ≡ value_of (reported.unread d g) → TellTheSame (reported.unread c f) (reported.unread d g)
-one_unread c d f g fit fits same =
+-- none stands where a fault is told
+abbrev mds_in : Option Data → List ℕ
+mds_in value = text_in (at_key (codes "mds") value)
+
+no_fault : {X : Type 0} (r : Release) → [] ≡ version_of r → X
+no_fault Pacific same = clash 0 49 (omega arith) (ap first_byte same)
+no_fault Reef same = clash 0 49 (omega arith) (ap first_byte same)
+no_fault Tentacle same = clash 0 50 (omega arith) (ap first_byte same)
+
+one_unread : (c d : List ℕ) (v w : Unreadable) → IsBytes c → IsBytes d → value_of (reported.unread c v) ≡ value_of (reported.unread d w) → TellTheSame (reported.unread c v) (reported.unread d w)
+one_unread c d (unreadable.Own f) (unreadable.Own g) fit fits same =
     let kind : f.kind ≡ g.kind = one_kind f.kind g.kind (ap (λ (v : Option Data). text_in (at_key (codes "fault") v)) same) in
     let place : f.at ≡ g.at = ap (number_at (codes "at")) same in
-    (one_spelling c d fit fits (ap (at_key (codes "client")) same), λ i. record { kind = kind i; at = place i })
+    (one_spelling c d fit fits (ap (at_key (codes "client")) same), λ i. unreadable.Own (record { kind = kind i; at = place i }))
+one_unread c d (unreadable.Own f) (unreadable.There b n) fit fits same = no_fault b (ap mds_in same)
+one_unread c d (unreadable.There a m) (unreadable.Own g) fit fits same = no_fault a (sym (ap mds_in same))
+one_unread c d (unreadable.There a m) (unreadable.There b n) fit fits same =
+    let release : a ≡ b = sym (has_version a) ∙ ap (λ (v : Option Data). asked_of (mds_in v)) same ∙ has_version b in
+    let place : m ≡ n = ap (number_at (codes "at")) same in
+    (one_spelling c d fit fits (ap (at_key (codes "client")) same), λ i. unreadable.There (release i) (place i))
 
-one_bad_caps : (k l : ℕ) (p q : List (List ℕ)) (c d : List ℕ) (m n : ℕ) → HasBytes (reported.bad_caps k p c m) → HasBytes (reported.bad_caps l q d n) → value_of (reported.bad_caps k p c m) ≡ value_of (reported.bad_caps l q d n)
-    → TellTheSame (reported.bad_caps k p c m) (reported.bad_caps l q d n) × (k ≡ l)
-one_bad_caps k l p q c d m n fit fits same = (
+one_not_known : (a b : Unknown) → unknown_word a ≡ unknown_word b → a ≡ b
+one_not_known Spelling Spelling same = refl
+one_not_known Spelling Address same = clash 100 117 (omega arith) (sym (ap first_byte same))
+one_not_known Address Spelling same = clash 100 117 (omega arith) (ap first_byte same)
+one_not_known Address Address same = refl
+
+one_unknown : (a b : Unknown) (k l : ℕ) (p q : List (List ℕ)) (c d : List ℕ) (m n : ℕ) → HasBytes (reported.unknown a k p c m) → HasBytes (reported.unknown b l q d n) → value_of (reported.unknown a k p c m) ≡ value_of (reported.unknown b l q d n)
+    → TellTheSame (reported.unknown a k p c m) (reported.unknown b l q d n) × (k ≡ l)
+one_unknown a b k l p q c d m n fit fits same = (
   (
+    one_not_known a b (ap (λ (v : Option Data). text_in (at_key (codes "kind") v)) same),
     one_spelling (path_text p) (path_text q) fit.0 fits.0 (ap (at_key (codes "path")) same),
     one_spelling c d fit.1 fits.1 (ap (at_key (codes "client")) same),
     ap (number_at (codes "session")) same,
@@ -270,8 +294,8 @@ of_kind (reported.renamed m c a) (reported.renamed n d b) e fit fits same = (one
 of_kind (reported.unlinked m p) (reported.unlinked n q) e fit fits same = (one_unlinked m n p q fit fits same, tt)
 of_kind (reported.unnamed m) (reported.unnamed n) e fit fits same = (ap (number_at (codes "session")) same, tt)
 of_kind (reported.unlisted c) (reported.unlisted d) e fit fits same = (one_spelling c d fit fits (ap (at_key (codes "client")) same), tt)
-of_kind (reported.unread c f) (reported.unread d g) e fit fits same = (one_unread c d f g fit fits same, tt)
-of_kind (reported.bad_caps k p c m) (reported.bad_caps l q d n) e fit fits same = one_bad_caps k l p q c d m n fit fits same
+of_kind (reported.unread c v) (reported.unread d w) e fit fits same = (one_unread c d v w fit fits same, tt)
+of_kind (reported.unknown a k p c m) (reported.unknown b l q d n) e fit fits same = one_unknown a b k l p q c d m n fit fits same
 of_kind (reported.pathless k c m i) (reported.pathless l d n j) e fit fits same = (one_pathless k l c d m n i j fit fits same, tt)
 of_kind reported.nothing reported.nothing e fit fits same = (tt, tt)
 of_kind (reported.summary m) (reported.summary n) e fit fits same = (one_summary m n same, tt)

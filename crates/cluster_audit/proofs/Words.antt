@@ -1,9 +1,9 @@
 -- Words in a line: the digits of numbers, and the letters of sets of caps.
-use Rattle.std.proofs.Common.{◌≡◌, ℕ, ◌+◌, ◌<◌, ◌^◌, ◌%◌, ◌==◌, ◌&&◌, Bool, true, false, nat_lt, cond, Option, Some, None, List, [], ◌∷◌, ◌++◌, map, filter}
-use Rattle.std.proofs.Common.{drop, refl, sym, ap, ◌∙◌, append_assoc, arith}
+use Rattle.std.proofs.Common.{◌≡◌, ℕ, ◌+◌, ◌<◌, ◌^◌, ◌%◌, ◌==◌, ◌&&◌, Bool, true, false, nat_lt, cond, List, [], ◌∷◌, ◌++◌, map, filter}
+use Rattle.std.proofs.Common.{refl, sym, ap, ◌∙◌, append_assoc, arith}
 use Rattle.std.specs.Prelude.{codes, ◌||◌}
 use Rattle.std.specs.Fmt.{decimal}
-use Rattle.std.specs.List.{enumerate_from, flat_map, list_all}
+use Rattle.std.specs.List.{list_all}
 use Rattle.std.proofs.lemmas.Bool.{and_from, and_parts, false≢true, lt-ltb, ne_eqb}
 use Rattle.std.proofs.lemmas.Fmt.{decimal_by_steps, decimal_injective}
 use Rattle.std.proofs.lemmas.List.{append_cancel_left}
@@ -17,13 +17,8 @@ use Rattle.capbits.specs.Sets.{caps_of_part, is_empty}
 use Rattle.capbits.specs.Text.{capital_of, group_of, groups_in, headed, letter_of, letters_in, or_dash, text_of}
 use Rattle.capbits.proofs.Emptiness.{is_empty-no_caps}
 use Rattle.capbits.proofs.Following.{text_of-injective}
-use Rattle.capgrant.specs.declared.access.Access.{Access}
-use Rattle.capgrant.specs.declared.rule.Rule.{Rule}
-use Rattle.texts.specs.Explaining.{failure_text, failures_text}
-use Rattle.texts.proofs.Answered.{one_failure}
 use Rattle.texts.proofs.Quoted.{clash, first_byte}
-use Rattle.cluster_audit.specs.Lines.{revoked_text, why_text}
-use Rattle.cluster_audit.specs.Reported.{reasons}
+use Rattle.cluster_audit.specs.Lines.{revoked_text}
 
 -- a dash is no letter, but stands for no caps
 abbrev pub is_letter : ℕ → Bool
@@ -154,46 +149,3 @@ one_revoked r q s t =
         | false ↦ λ f same. one_revoking r q s t same
       ] refl
     ] refl
-
--- ---- rules
-
-abbrev further : ℕ × Rule → List ℕ
-further failure = codes ", " ++ failure_text failure
-
--- behind the last no comma stands
-one_row : (n : ℕ) (rs qs : List Rule) (s t : List ℕ) → first_byte s < 44 → first_byte t < 44 → flat_map further (enumerate_from n rs) ++ s ≡ flat_map further (enumerate_from n qs) ++ t → (rs ≡ qs) × (s ≡ t)
-one_row n [] [] s t below too same = (refl, same)
-one_row n [] (q ∷ qs) s t below too same = clash (first_byte s) 44 below (ap first_byte same)
-one_row n (r ∷ rs) [] s t below too same = clash (first_byte t) 44 too (sym (ap first_byte same))
-one_row n (r ∷ rs) (q ∷ qs) s t below too same =
-    let u : List ℕ = flat_map further (enumerate_from (n + 1) rs) in
-    let v : List ℕ = flat_map further (enumerate_from (n + 1) qs) in
-    let behind = append_cancel_left (codes ", ") ((failure_text (n, r) ++ u) ++ s) ((failure_text (n, q) ++ v) ++ t) same in
-    let both = one_failure n r q (u ++ s) (v ++ t) (sym (append_assoc (failure_text (n, r)) u s) ∙ behind ∙ append_assoc (failure_text (n, q)) v t) in
-    let more = one_row (n + 1) rs qs s t below too both.1 in
-    let here : r ≡ q = both.0 in
-    let rest : rs ≡ qs = more.0 in
-    (cc, more.1)
-
-one_reason : (rs qs : List Rule) (s t : List ℕ) → first_byte s < 44 → first_byte t < 44 → failures_text rs ++ s ≡ failures_text qs ++ t → (rs ≡ qs) × (s ≡ t)
-one_reason [] [] s t below too same = (refl, append_cancel_left (codes "no grants") s t same)
-one_reason [] (q ∷ qs) s t below too same = clash 103 110 (omega arith) (sym (ap first_byte same))
-one_reason (r ∷ rs) [] s t below too same = clash 103 110 (omega arith) (ap first_byte same)
-one_reason (r ∷ rs) (q ∷ qs) s t below too same =
-    let u : List ℕ = flat_map further (enumerate_from 2 rs) in
-    let v : List ℕ = flat_map further (enumerate_from 2 qs) in
-    let both = one_failure 1 r q (u ++ s) (v ++ t) (sym (append_assoc (failure_text (1, r)) u s) ∙ same ∙ append_assoc (failure_text (1, q)) v t) in
-    let more = one_row 2 rs qs s t below too both.1 in
-    let here : r ≡ q = both.0 in
-    let rest : rs ≡ qs = more.0 in
-    (cc, more.1)
-
-no_reason : {X : Type 0} (rs : List Rule) (s t : List ℕ) → codes "no access permits it" ++ s ≡ failures_text rs ++ t → X
-no_reason [] s t same = clash 97 103 (omega arith) (ap (λ (w : List ℕ). first_byte (drop 3 w)) same)
-no_reason (r ∷ rs) s t same = clash 103 110 (omega arith) (sym (ap first_byte same))
-
-pub one_why : (m n : Option Access) (rs qs : List Rule) (s t : List ℕ) → first_byte s < 44 → first_byte t < 44 → why_text m rs ++ s ≡ why_text n qs ++ t → (reasons m rs ≡ reasons n qs) × (s ≡ t)
-one_why None None rs qs s t below too same = (refl, append_cancel_left (codes "no access permits it") s t same)
-one_why None (Some b) rs qs s t below too same = no_reason qs s t same
-one_why (Some a) None rs qs s t below too same = no_reason rs t s (sym same)
-one_why (Some a) (Some b) rs qs s t below too same = let both = one_reason rs qs s t below too same in (ap Some both.0, both.1)

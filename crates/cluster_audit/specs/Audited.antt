@@ -1,16 +1,11 @@
 -- What clients of a cluster hold and may not.
 use Rattle.std.specs.Prelude.{◌≡◌, ◌⊎◌, ◌==◌, ◌||◌, ℕ, Bool, false, not, is_some, if◌then◌else◌, Option, Some, None, option_and_then, option_map, unwrap_or, Ok, List, [], ◌∷◌, ◌++◌, length, find}
 use Rattle.std.specs.Option.{option_or}
-use Rattle.std.specs.Prelude.{bytes_eq, IsTrue}
+use Rattle.std.specs.Prelude.{bytes_eq}
 use Rattle.std.specs.FinMap as map
 use Rattle.std.specs.List.{flat_map}
-use Rattle.capbits.specs.declared.cap.Cap.{Cap}
-use Rattle.capbits.specs.Caps.{Caps, has}
+use Rattle.capbits.specs.Caps.{Caps}
 use Rattle.capbits.specs.Text.{text_of}
-use Rattle.capspec.specs.declared.fault.SpecFault.{SpecFault}
-use Rattle.capspec.specs.declared.grant.Grant.{Grant}
-use Rattle.capspec.specs.Faults.{IsFault}
-use Rattle.capspec.specs.Grants.{Reads}
 use Rattle.ceph_input.specs.Auth.{IsFaultOf, Named, auth_of}
 use Rattle.ceph_input.specs.Values.{IsFaultIn}
 use Rattle.ceph_input.specs.Sessions.{sessions_of}
@@ -19,8 +14,14 @@ use Rattle.cluster_audit.specs.declared.findings.Finding.{Finding}
 use Rattle.cluster_audit.specs.declared.conflict.Conflict.{Conflict}
 use Rattle.cluster_audit.specs.declared.conflict.Holding.{Holding}
 use Rattle.cluster_audit.specs.Conflicts.{conflicts_of}
-use Rattle.cluster_audit.specs.Callers.{Inode, IsPermittedToSome, inode}
-use Rattle.cluster_audit.specs.Findings.{IsBeyond, is_unjudged}
+use Rattle.cluster_audit.specs.declared.mds_findings.Beyond.{Beyond}
+use Rattle.cluster_audit.specs.declared.grants_by.GrantsBy.{GrantsBy}
+use Rattle.cluster_audit.specs.declared.grants_by.Unreadable.{Unreadable}
+use Rattle.cluster_audit.specs.declared.unjudged.Unknown.TheVariants.{Address, Spelling}
+use Rattle.cluster_audit.specs.Callers.{Inode, inode}
+use Rattle.cluster_audit.specs.Findings.{is_unjudged}
+use Rattle.cluster_audit.specs.GrantsBy.{IsReadBy, IsUnreadBy}
+use Rattle.cluster_audit.specs.MdsFindings.{IsBeyondBy}
 use Rattle.cluster_audit.specs.Known.{AreKnown, Known}
 use Rattle.texts.specs.declared.shape.Shape.{Shape}
 use Rattle.texts.specs.Shapes.{nothing_in}
@@ -32,7 +33,8 @@ use Rattle.cluster_audit.specs.declared.notes.Manner.{Manner}
 use Rattle.cluster_audit.specs.declared.notes.Notes.{Notes}
 use Rattle.cluster_audit.specs.Order.{AreCounted, AreInOrder}
 use Rattle.cluster_audit.specs.Summary.{counts_of}
-use Rattle.cluster_audit.specs.Shaped.{alias_in, bad_caps_in, conflict_in, counts_in, found_in, pathless_in, unlinked_in, unlisted_in, unnamed_in, unread_in}
+use Rattle.cluster_audit.specs.Shaped.{alias_in, conflict_in, counts_in, found_in, pathless_in, unknown_in, unlinked_in, unlisted_in, unnamed_in}
+use Rattle.cluster_audit.specs.Shaped.{unreadable_in}
 
 -- ---- who it is
 
@@ -70,30 +72,34 @@ is_unchecked sessions number = unwrap_or (option_map (λ s. s.unchecked) (sessio
 
 -- ---- what is said of one who holds something
 
--- all of it is permitted to somebody, and nothing is said; else a line tells what is not
-abbrev pub IsReportedBeyond : Manner → ℕ → Inode → List ℕ → ℕ → Bool → List Grant → Caps → Caps → List ℕ → Type 0
-IsReportedBeyond m number i client session unchecked grants issued pending found = (((cap : Cap) → IsTrue (has issued cap) → IsPermittedToSome i grants cap) × (found ≡ []))
-    ⊎ ((f : Finding) × IsBeyond issued grants i f × (found ≡ found_in m number i.path client session issued pending f (is_unjudged unchecked f.caps)))
+-- what is found beyond grants is told; nothing where nothing is
+abbrev pub finding_text : Manner → ℕ → List (List ℕ) → List ℕ → ℕ → Bool → Caps → Caps → Option Finding → List ℕ
+finding_text m number path client session unchecked issued pending None = []
+finding_text m number path client session unchecked issued pending (Some f) = found_in m number path client session issued pending f (is_unjudged unchecked f.caps)
 
--- what is known to be held is judged by these grants; else a line says that it is not known
-abbrev pub IsJudged : Manner → ℕ → Inode → List ℕ → Bool → List Grant → Held → List ℕ → List ℕ → Type 0
-IsJudged m number i client unchecked grants h found unknown = ((issued : Caps) × (pending : Caps) × (h.issued ≡ text_of issued) × (h.pending ≡ text_of pending) × IsReportedBeyond m number i client h.client unchecked grants issued pending found × (unknown ≡ []))
-    ⊎ (((issued pending : Caps) → h.issued ≡ text_of issued → h.pending ≡ text_of pending → ⊥) × (found ≡ []) × (unknown ≡ bad_caps_in m.shape number i.path client h.client))
+-- so is that the client's address permits some of it
+abbrev pub address_text : Shape → ℕ → List (List ℕ) → List ℕ → ℕ → Bool → List ℕ
+address_text shape number path client session is_open = if is_open then unknown_in shape Address number path client session else []
 
--- the grants are those that the text means; else a line tells its first fault
-abbrev pub IsJudgedBy : Manner → ℕ → Inode → List ℕ → Bool → Held → List ℕ → List ℕ → List ℕ → Type 0
-IsJudgedBy m number i client unchecked h text found unknown = ((grants : List Grant) × Reads text grants × IsJudged m number i client unchecked grants h found unknown)
-    ⊎ ((fault : SpecFault) × IsFault text fault × (found ≡ []) × (unknown ≡ unread_in m.shape client fault))
+-- what is held is judged by the grants
+abbrev pub IsReportedBeyond : Manner → ℕ → Inode → List ℕ → ℕ → Bool → GrantsBy → Caps → Caps → List ℕ → List ℕ → Type 0
+IsReportedBeyond m number i client session unchecked grants issued pending found unknown = (b : Beyond) × IsBeyondBy grants i issued b
+    × (found ≡ finding_text m number i.path client session unchecked issued pending b.finding) × (unknown ≡ address_text m.shape number i.path client session b.is_open)
 
--- the same of the text that the auth list has of a client; one that has none is permitted nothing
-abbrev pub SaysOfCaps : Manner → ℕ → Inode → List ℕ → Bool → Held → Option (List ℕ) → List ℕ → List ℕ → Type 0
-SaysOfCaps m number i client unchecked h None found unknown = IsJudged m number i client unchecked [] h found unknown
-SaysOfCaps m number i client unchecked h (Some text) found unknown = IsJudgedBy m number i client unchecked h text found unknown
+-- the same of what is known to be held; else a line says that it is not known
+abbrev pub IsJudged : Manner → ℕ → Inode → List ℕ → Bool → GrantsBy → Held → List ℕ → List ℕ → Type 0
+IsJudged m number i client unchecked grants h found unknown = ((issued : Caps) × (pending : Caps) × (h.issued ≡ text_of issued) × (h.pending ≡ text_of pending) × IsReportedBeyond m number i client h.client unchecked grants issued pending found unknown)
+    ⊎ (((issued pending : Caps) → h.issued ≡ text_of issued → h.pending ≡ text_of pending → ⊥) × (found ≡ []) × (unknown ≡ unknown_in m.shape Spelling number i.path client h.client))
+
+-- the grants are those of the text that the auth list may have of a client; where they can't be read a line tells why
+abbrev pub IsJudgedBy : Manner → ℕ → Inode → List ℕ → Bool → Held → Option (List ℕ) → List ℕ → List ℕ → Type 0
+IsJudgedBy m number i client unchecked h caps found unknown = ((grants : GrantsBy) × IsReadBy m.mds caps grants × IsJudged m number i client unchecked grants h found unknown)
+    ⊎ ((what : Unreadable) × IsUnreadBy m.mds caps what × (found ≡ []) × (unknown ≡ unreadable_in m.shape client what))
 
 -- of the entry that the auth list has of it
 abbrev pub SaysOfEntity : Manner → ℕ → Inode → List ℕ → Bool → Held → Option Named → List ℕ → List ℕ → Type 0
 SaysOfEntity m number i client unchecked h None found unknown = (found ≡ []) × (unknown ≡ unlisted_in m.shape client)
-SaysOfEntity m number i client unchecked h (Some e) found unknown = SaysOfCaps m number i client unchecked h e.caps found unknown
+SaysOfEntity m number i client unchecked h (Some e) found unknown = IsJudgedBy m number i client unchecked h e.caps found unknown
 
 -- of the name of it that is known
 abbrev pub SaysOfName : Clients → ℕ → Inode → Held → Option (List ℕ) → List ℕ → List ℕ → Type 0

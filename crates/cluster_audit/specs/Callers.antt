@@ -12,14 +12,16 @@ use Rattle.capgrant.specs.Verdict.{granted}
 use Rattle.policy_analysis.specs.Callers.{IsCallerOf, Wanted, wanted}
 use Rattle.policy_analysis.specs.Callers.{asked as asked_of}
 
--- an inode as the rules see it: its file system, its names from the root down, its owner, group and mode
+-- an inode as the rules see it: its file system, its names from the root down, which are its place as the rules of a release take it too, its owner,
+-- group and mode
 pub record Inode : Type 0 where
   pub fs : List ℕ
   pub path : List (List ℕ)
+  pub place : List (List ℕ)
   pub attr : Attr
 
 abbrev pub inode : List ℕ → List (List ℕ) → Attr → Inode
-inode fs path attr = record { fs = fs; path = path; attr = attr }
+inode fs path attr = record { fs = fs; path = path; place = path; attr = attr }
 
 -- what is wanted of the inode
 abbrev pub wanted_of : Inode → Access → Wanted

@@ -8,9 +8,14 @@ use Rattle.capgrant.specs.declared.access.Access.{Access}
 use Rattle.capgrant.specs.declared.access.Access.TheVariants.{Read, Write}
 use Rattle.capgrant.specs.declared.rule.Rule.{Rule}
 use Rattle.capgrant.specs.Permitted.{for_either, for_readers, for_writers}
+use Rattle.release_rules.specs.declared.rule.Rule.{Rule as MdsRule}
+use Rattle.release_rules.specs.declared.verdict.Verdict.{Verdict}
+use Rattle.release_rules.specs.declared.verdict.Verdict.TheVariants as verdicts
+use Rattle.policy_analysis.specs.declared.mds_standing.MdsStanding.{MdsStanding}
 use Rattle.policy_analysis.specs.Standing.{reason as reason_of}
 use Rattle.locktable.specs.Targets.{has_any}
 use Rattle.cluster_audit.specs.declared.findings.Finding.{Finding}
+use Rattle.cluster_audit.specs.declared.findings.Denial.TheVariants.{Own}
 use Rattle.cluster_audit.specs.Callers.{Inode, IsPermittedToSome, wanted_of}
 
 -- the least access that would permit some of these caps; None where no access does
@@ -20,6 +25,15 @@ least_access caps = if has_any caps (for_either ++ for_readers) then Some Read e
 -- some of these caps are those of a writer, whose client is known not to check itself: from Ceph 18 on no MDS judges what it writes back by them
 abbrev pub is_unjudged : Bool → Caps → Bool
 is_unjudged unchecked caps = unchecked && has_any caps for_writers
+
+abbrev pub rules_of : Verdict → Option (List MdsRule)
+rules_of (verdicts.Denied rules) = Some rules
+rules_of verdicts.CannotMount = None
+rules_of verdict = Some []
+
+-- the rules of a release by which each grant denies an access, where nobody is let in; None where no grant lets the client mount
+abbrev pub rules_there : MdsStanding → Option (List MdsRule)
+rules_there s = rules_of s.verdict
 
 -- the first rule by which a grant denies the access to its own user, who is in all of the groups that it lists
 abbrev pub reason : Inode → Access → Grant → Option Rule
@@ -35,5 +49,5 @@ pub record IsBeyond (held : Caps) (grants : List Grant) (i : Inode) (found : Fin
   pub caps : (cap : Cap) → IsTrue (has found.caps cap) ↔ (IsTrue (has held cap) × (IsPermittedToSome i grants cap → ⊥))
   pub some : found.caps ≢ no_caps
   pub missing : found.missing ≡ least_access found.caps
-  pub rules : found.rules ≡ reasons i grants found.missing
-  pub one_each : IfSome found.missing (λ access. length found.rules ≡ length grants)
+  pub denial : found.denial ≡ Own (reasons i grants found.missing)
+  pub one_each : IfSome found.missing (λ access. length (reasons i grants found.missing) ≡ length grants)

@@ -4,10 +4,10 @@ use Rattle.hex.specs.Hex.{IsBytes}
 use Rattle.serde_json.specs.Data.{Data}
 use Rattle.texts.specs.Explaining.{path_text}
 use Rattle.texts.specs.Lines.{HasNumber}
-use Rattle.cluster_audit.specs.Objects.{alias_value, alike_value, bad_caps_value, conflict_group_value, conflict_value, counts_value, found_value, group_value}
-use Rattle.cluster_audit.specs.Objects.{pathless_value, unlinked_value, unlisted_value, unnamed_value, unread_value}
-use Rattle.cluster_audit.specs.Reported.{Line, TellTheSame, bad_caps, conflict, conflict_group, group, held, nothing, pathless, renamed, summary, unlinked, unlisted, unnamed}
-use Rattle.cluster_audit.specs.Reported.{unread}
+use Rattle.cluster_audit.specs.Objects.{alias_value, alike_value, conflict_group_value, conflict_value, counts_value, found_value, group_value}
+use Rattle.cluster_audit.specs.Objects.{pathless_value, unknown_value, unlinked_value, unlisted_value, unnamed_value, unreadable_value}
+use Rattle.cluster_audit.specs.Reported.{Line, TellTheSame, conflict, conflict_group, group, held, nothing, pathless, renamed, summary, unknown}
+use Rattle.cluster_audit.specs.Reported.{unlinked, unlisted, unnamed, unread}
 
 -- the value of the object, which stands in the place of each line but the one that says that nothing is found
 abbrev pub value_of : Line → Option Data
@@ -19,8 +19,8 @@ value_of (renamed session client alias) = Some (alias_value session client alias
 value_of (unlinked number path) = Some (unlinked_value number path)
 value_of (unnamed number) = Some (unnamed_value number)
 value_of (unlisted client) = Some (unlisted_value client)
-value_of (unread client fault) = Some (unread_value client fault)
-value_of (bad_caps number path client session) = Some (bad_caps_value number path client session)
+value_of (unread client what) = Some (unreadable_value client what)
+value_of (unknown what number path client session) = Some (unknown_value what number path client session)
 value_of (pathless number client session issued) = Some (pathless_value number client session issued)
 value_of nothing = None
 value_of (summary n) = Some (counts_value n)
@@ -34,8 +34,8 @@ HasBytes (conflict_group one other c count) = IfSome one IsBytes × IfSome other
 HasBytes (renamed session client alias) = IsBytes client × IsBytes alias
 HasBytes (unlinked number path) = IsBytes (path_text path)
 HasBytes (unlisted client) = IsBytes client
-HasBytes (unread client fault) = IsBytes client
-HasBytes (bad_caps number path client session) = IsBytes (path_text path) × IsBytes client
+HasBytes (unread client what) = IsBytes client
+HasBytes (unknown what number path client session) = IsBytes (path_text path) × IsBytes client
 HasBytes (pathless number client session issued) = IsBytes client × IsBytes issued
 HasBytes line = Unit {0}
 
@@ -43,7 +43,7 @@ HasBytes line = Unit {0}
 abbrev pub TellMore : Line → Line → Type 0
 TellMore (held k p c m i x f u) (held l q d n j y g v) = (k ≡ l) × (f.missing ≡ g.missing)
 TellMore (conflict m p a b c) (conflict n q x y d) = m ≡ n
-TellMore (bad_caps k p c m) (bad_caps l q d n) = k ≡ l
+TellMore (unknown a k p c m) (unknown b l q d n) = k ≡ l
 TellMore a b = Unit {0}
 
 abbrev pub OneObject : Type 0

@@ -9,4 +9,6 @@ pub mod Known
 pub mod Audited
 pub mod Callers
 pub mod Findings
+pub mod MdsFindings
+pub mod GrantsBy
 pub mod Conflicts

@@ -7,17 +7,27 @@ use Rattle.capbits.specs.Sets.{is_empty, minus}
 use Rattle.capbits.specs.Text.{text_of}
 use Rattle.capspec.specs.declared.fault.SpecFault.{SpecFault}
 use Rattle.capgrant.specs.declared.access.Access.{Access}
-use Rattle.capgrant.specs.declared.rule.Rule.{Rule}
+use Rattle.release_rules.specs.declared.release.Release.{Release}
+use Rattle.release_rules.specs.declared.rule.Rule.{Rule}
+use Rattle.release_rules.specs.Releases.{version_of}
 use Rattle.capgrant.specs.Access.{access_word}
+use Rattle.cluster_audit.specs.declared.findings.Denial.{Denial}
+use Rattle.cluster_audit.specs.declared.findings.Denial.TheVariants.{Own, There}
 use Rattle.cluster_audit.specs.declared.findings.Finding.{Finding}
 use Rattle.cluster_audit.specs.declared.conflict.Conflict.{Conflict}
+use Rattle.cluster_audit.specs.declared.grants_by.Unreadable.{Unreadable}
+use Rattle.cluster_audit.specs.declared.grants_by.Unreadable.TheVariants as unreadable
+use Rattle.cluster_audit.specs.declared.unjudged.Unknown.{Unknown}
+use Rattle.cluster_audit.specs.declared.unjudged.Unknown.TheVariants.{Address, Spelling}
 use Rattle.texts.specs.Explaining.{path_text}
+use Rattle.texts.specs.MdsAnswers.{mds_rules_value}
 use Rattle.texts.specs.Standing.{fault_word}
 use Rattle.texts.specs.Answers.{rules_value}
 use Rattle.texts.specs.Values.{Table, bytes_value, json_line, natural, object_of, or_null}
 use Rattle.cluster_audit.specs.declared.notes.Detail.{Detail}
 use Rattle.cluster_audit.specs.declared.notes.Detail.TheVariants.{Each, Groups}
 use Rattle.cluster_audit.specs.declared.summary.Counts.{Counts}
+use Rattle.cluster_audit.specs.Findings.{rules_there}
 
 abbrev pub caps_value : Caps → Data
 caps_value caps = bytes_value (text_of caps)
@@ -34,15 +44,25 @@ access_value access = string (access_word access)
 
 -- ---- what is held and may not be
 
--- by which rules the grants deny the least access that would permit some of it; null where no access permits it
-abbrev pub why_value : Option Access → List Rule → Data
-why_value missing rules = or_null (λ access. rules_value rules) missing
+-- by which rules of a release the grants deny an access; a word where none lets the client mount
+abbrev pub told_value : Option (List Rule) → Data
+told_value (Some rules) = mds_rules_value rules
+told_value None = string (codes "cannot-mount")
+
+-- by which rules the grants deny an access
+abbrev pub denial_value : Denial → Data
+denial_value (Own rules) = rules_value rules
+denial_value (There standing) = told_value (rules_there standing)
+
+-- why the least access that would permit some of it is denied; null where no access permits it
+abbrev pub why_value : Option Access → Denial → Data
+why_value missing denial = or_null (λ access. denial_value denial) missing
 
 -- of which client, and why
 abbrev pub group_table : List ℕ → Finding → Table
 group_table client f = (codes "kind", string (codes "held-beyond"))
     ∷ (codes "client", bytes_value client)
-    ∷ (codes "rules", why_value f.missing f.rules)
+    ∷ (codes "rules", why_value f.missing f.denial)
     ∷ []
 
 -- the first Ceph of which no MDS judges what is written back by it; null where somebody does
@@ -143,9 +163,21 @@ unlisted_value client = object_of ((codes "kind", string (codes "no-entry")) ∷
 abbrev pub unread_value : List ℕ → SpecFault → Data
 unread_value client fault = object_of ((codes "kind", string (codes "unread")) ∷ (codes "client", bytes_value client) ∷ (codes "fault", string (fault_word fault.kind)) ∷ (codes "at", natural fault.at) ∷ [])
 
--- caps that are spelled otherwise
-abbrev pub bad_caps_value : ℕ → List (List ℕ) → List ℕ → ℕ → Data
-bad_caps_value number path client session = object_of ((codes "kind", string (codes "unknown-caps")) ∷ (codes "inode", natural number) ∷ (codes "path", path_value path) ∷ (codes "client", bytes_value client) ∷ (codes "session", natural session) ∷ [])
+-- one whose grants the MDS of a release reads up to a byte alone
+abbrev pub not_read_value : List ℕ → Release → ℕ → Data
+not_read_value client release at = object_of ((codes "kind", string (codes "unread")) ∷ (codes "client", bytes_value client) ∷ (codes "mds", string (version_of release)) ∷ (codes "at", natural at) ∷ [])
+
+abbrev pub unreadable_value : List ℕ → Unreadable → Data
+unreadable_value client (unreadable.Own fault) = unread_value client fault
+unreadable_value client (unreadable.There release at) = not_read_value client release at
+
+-- what is not known of what is held
+abbrev pub unknown_word : Unknown → List ℕ
+unknown_word Spelling = codes "unknown-caps"
+unknown_word Address = codes "depends-on-address"
+
+abbrev pub unknown_value : Unknown → ℕ → List (List ℕ) → List ℕ → ℕ → Data
+unknown_value unknown number path client session = object_of ((codes "kind", string (unknown_word unknown)) ∷ (codes "inode", natural number) ∷ (codes "path", path_value path) ∷ (codes "client", bytes_value client) ∷ (codes "session", natural session) ∷ [])
 
 -- a client holds something of an inode to which no path leads
 abbrev pub pathless_value : ℕ → List ℕ → ℕ → List ℕ → Data

@@ -1,21 +1,28 @@
 -- What a line of an audit tells.
-use Rattle.std.specs.Prelude.{◌≡◌, ℕ, ◌<◌, ◌^◌, Bool, Option, Some, None, List, [], ◌∷◌, All}
+use Rattle.std.specs.Prelude.{◌≡◌, ℕ, ◌<◌, ◌^◌, Bool, Option, Some, None, List, [], ◌∷◌, All, map}
 use Rattle.std.specs.List.{flat_map}
 use Rattle.capbits.specs.Caps.{Caps}
 use Rattle.capbits.specs.Sets.{minus}
-use Rattle.capspec.specs.declared.fault.SpecFault.{SpecFault}
 use Rattle.capgrant.specs.declared.access.Access.{Access}
-use Rattle.capgrant.specs.declared.rule.Rule.{Rule}
+use Rattle.capgrant.specs.declared.rule.Rule.{Rule as OwnRule}
+use Rattle.capgrant.specs.declared.rule.Rule.TheVariants as own_rule
+use Rattle.release_rules.specs.declared.rule.Rule.{Rule}
+use Rattle.release_rules.specs.declared.rule.Rule.TheVariants as rule
+use Rattle.cluster_audit.specs.declared.findings.Denial.{Denial}
+use Rattle.cluster_audit.specs.declared.findings.Denial.TheVariants.{Own, There}
 use Rattle.cluster_audit.specs.declared.findings.Finding.{Finding}
+use Rattle.cluster_audit.specs.declared.grants_by.Unreadable.{Unreadable}
+use Rattle.cluster_audit.specs.declared.grants_by.Unreadable.TheVariants as unreadable
+use Rattle.cluster_audit.specs.declared.unjudged.Unknown.{Unknown}
 use Rattle.cluster_audit.specs.declared.conflict.Conflict.{Conflict}
 use Rattle.texts.specs.Explaining.{path_text}
-use Rattle.texts.specs.Standing.{unread_line}
 use Rattle.texts.specs.declared.shape.Shape.TheVariants.{Lines}
 use Rattle.texts.specs.Shapes.{nothing_in}
 use Rattle.cluster_audit.specs.declared.notes.Detail.TheVariants.{Each, Groups}
 use Rattle.cluster_audit.specs.declared.summary.Counts.{Counts}
-use Rattle.cluster_audit.specs.Lines.{alias_line, bad_caps_line, conflict_line, conflict_text, counts_line, group_text, held_line, pathless_line, unlinked_line, unlisted_line}
-use Rattle.cluster_audit.specs.Lines.{unnamed_line}
+use Rattle.cluster_audit.specs.Findings.{rules_there}
+use Rattle.cluster_audit.specs.Lines.{alias_line, conflict_line, conflict_text, counts_line, group_text, held_line, pathless_line, unknown_line, unlinked_line, unlisted_line}
+use Rattle.cluster_audit.specs.Lines.{unnamed_line, unreadable_line}
 use Rattle.cluster_audit.specs.Shaped.{counted_in}
 
 -- a line of an audit, by what its text is made of
@@ -35,8 +42,8 @@ pub data Line : Type 0 where
   unlinked : ℕ → List (List ℕ) → Line
   unnamed : ℕ → Line
   unlisted : List ℕ → Line
-  unread : List ℕ → SpecFault → Line
-  bad_caps : ℕ → List (List ℕ) → List ℕ → ℕ → Line
+  unread : List ℕ → Unreadable → Line
+  unknown : Unknown → ℕ → List (List ℕ) → List ℕ → ℕ → Line
   pathless : ℕ → List ℕ → ℕ → List ℕ → Line
   nothing : Line
   summary : Counts → Line
@@ -50,8 +57,8 @@ line_text (renamed session client alias) = alias_line session client alias
 line_text (unlinked number path) = unlinked_line number path
 line_text (unnamed number) = unnamed_line number
 line_text (unlisted client) = unlisted_line client
-line_text (unread client fault) = unread_line client fault
-line_text (bad_caps number path client session) = bad_caps_line path client session
+line_text (unread client what) = unreadable_line client what
+line_text (unknown what number path client session) = unknown_line what path client session
 line_text (pathless number client session issued) = pathless_line number client session issued
 line_text nothing = nothing_in Lines
 line_text (summary n) = counts_line n
@@ -75,18 +82,38 @@ HasNumbers (renamed session client alias) = session < 2 ^ 64
 HasNumbers (unlinked number path) = number < 2 ^ 64
 HasNumbers (unnamed number) = number < 2 ^ 64
 HasNumbers (unlisted client) = Unit {0}
-HasNumbers (unread client fault) = fault.at < 2 ^ 64
-HasNumbers (bad_caps number path client session) = session < 2 ^ 64
+HasNumbers (unread client (unreadable.Own fault)) = fault.at < 2 ^ 64
+HasNumbers (unread client (unreadable.There release at)) = at < 2 ^ 64
+HasNumbers (unknown what number path client session) = session < 2 ^ 64
 HasNumbers (pathless number client session issued) = (number < 2 ^ 64) × (session < 2 ^ 64)
 HasNumbers nothing = Unit {0}
 HasNumbers (summary n) = AreCounts n
 
 -- ---- two lines tell the same
 
--- the rules by which the grants deny an access that is missing
-abbrev pub reasons : Option Access → List Rule → Option (List Rule)
-reasons None rules = None
-reasons (Some access) rules = Some rules
+-- this server's rule among those of a release, by its number and its word
+abbrev pub as_there : OwnRule → Rule
+as_there own_rule.FsName = rule.FsName
+as_there own_rule.Uid = rule.Uid
+as_there own_rule.Gids = rule.Gids
+as_there own_rule.Path = rule.Path
+as_there own_rule.NoWrite = rule.NoWrite
+as_there own_rule.RootSquash = rule.RootSquash
+as_there own_rule.NoP = rule.NoP
+as_there own_rule.NoS = rule.NoS
+as_there own_rule.NotOwner = rule.NotOwner
+as_there own_rule.NotOwnGroup = rule.NotOwnGroup
+as_there own_rule.ModeBits = rule.ModeBits
+
+-- the rules that are told; None where no grant lets the client mount
+abbrev pub rules_told : Denial → Option (List Rule)
+rules_told (Own rules) = Some (map as_there rules)
+rules_told (There standing) = rules_there standing
+
+-- why an access that is missing is denied
+abbrev pub reasons : Option Access → Denial → Option (Option (List Rule))
+reasons None denial = None
+reasons (Some access) denial = Some (rules_told denial)
 
 -- of an inode to which a path leads the text of the path counts, and else its number
 abbrev pub IsOneInode : ℕ → Option (List (List ℕ)) → ℕ → Option (List (List ℕ)) → Type 0
@@ -102,8 +129,8 @@ IsOneClient m c n d = ⊥
 
 abbrev pub TellTheSame : Line → Line → Type 0
 TellTheSame (held k p c m i x f u) (held l q d n j y g v) =
-    (path_text p ≡ path_text q) × (c ≡ d) × (m ≡ n) × (i ≡ j) × (f.caps ≡ g.caps) × (minus f.caps x ≡ minus g.caps y) × (reasons f.missing f.rules ≡ reasons g.missing g.rules) × (u ≡ v)
-TellTheSame (group c f m) (group d g n) = (reasons f.missing f.rules ≡ reasons g.missing g.rules) × (c ≡ d) × (m ≡ n)
+    (path_text p ≡ path_text q) × (c ≡ d) × (m ≡ n) × (i ≡ j) × (f.caps ≡ g.caps) × (minus f.caps x ≡ minus g.caps y) × (reasons f.missing f.denial ≡ reasons g.missing g.denial) × (u ≡ v)
+TellTheSame (group c f m) (group d g n) = (reasons f.missing f.denial ≡ reasons g.missing g.denial) × (c ≡ d) × (m ≡ n)
 TellTheSame (conflict m p a b c) (conflict n q x y d) = IsOneInode m p n q × (a ≡ x) × (b ≡ y) × (c ≡ d)
 TellTheSame (conflict_group a b c m) (conflict_group x y d n) =
     IsOneClient c.one.client a d.one.client x × (c.one.caps ≡ d.one.caps) × (c.other.caps ≡ d.other.caps) × IsOneClient c.other.client b d.other.client y × (m ≡ n)
@@ -112,7 +139,7 @@ TellTheSame (unlinked m p) (unlinked n q) = (m ≡ n) × (path_text p ≡ path_t
 TellTheSame (unnamed m) (unnamed n) = m ≡ n
 TellTheSame (unlisted c) (unlisted d) = c ≡ d
 TellTheSame (unread c f) (unread d g) = (c ≡ d) × (f ≡ g)
-TellTheSame (bad_caps k p c m) (bad_caps l q d n) = (path_text p ≡ path_text q) × (c ≡ d) × (m ≡ n)
+TellTheSame (unknown a k p c m) (unknown b l q d n) = (a ≡ b) × (path_text p ≡ path_text q) × (c ≡ d) × (m ≡ n)
 TellTheSame (pathless k c m i) (pathless l d n j) = (k ≡ l) × (c ≡ d) × (m ≡ n) × (i ≡ j)
 TellTheSame nothing nothing = Unit {0}
 TellTheSame (summary m) (summary n) = m ≡ n

@@ -2,10 +2,10 @@
 use Rattle.std.specs.Prelude.{ℕ, Bool, List, ◌++◌, codes, Option}
 use Rattle.std.specs.Fmt.{decimal}
 use Rattle.capbits.specs.Caps.{Caps}
-use Rattle.capspec.specs.declared.fault.SpecFault.{SpecFault}
 use Rattle.cluster_audit.specs.declared.findings.Finding.{Finding}
 use Rattle.cluster_audit.specs.declared.conflict.Conflict.{Conflict}
-use Rattle.texts.specs.Standing.{unread_line}
+use Rattle.cluster_audit.specs.declared.grants_by.Unreadable.{Unreadable}
+use Rattle.cluster_audit.specs.declared.unjudged.Unknown.{Unknown}
 use Rattle.texts.specs.declared.shape.Shape.{Shape}
 use Rattle.texts.specs.declared.shape.Shape.TheVariants.{Lines, Objects}
 use Rattle.texts.specs.Values.{json_line}
@@ -13,9 +13,10 @@ use Rattle.cluster_audit.specs.declared.notes.Detail.{Detail}
 use Rattle.cluster_audit.specs.declared.notes.Detail.TheVariants.{Each, Groups}
 use Rattle.cluster_audit.specs.declared.notes.Manner.{Manner}
 use Rattle.cluster_audit.specs.declared.summary.Counts.{Counts}
-use Rattle.cluster_audit.specs.Lines.{alias_line, bad_caps_line, conflict_line, counts_line, group_line, held_line, pathless_line, unlinked_line, unlisted_line, unnamed_line}
-use Rattle.cluster_audit.specs.Objects.{alias_value, bad_caps_value, conflict_object, counts_object, found_object, group_object, pathless_value, unlinked_value, unlisted_value}
-use Rattle.cluster_audit.specs.Objects.{unnamed_value, unread_value}
+use Rattle.cluster_audit.specs.Lines.{alias_line, conflict_line, counts_line, group_line, held_line, pathless_line, unknown_line, unlinked_line, unlisted_line, unnamed_line}
+use Rattle.cluster_audit.specs.Lines.{unreadable_line}
+use Rattle.cluster_audit.specs.Objects.{alias_value, conflict_object, counts_object, found_object, group_object, pathless_value, unknown_value, unlinked_value, unlisted_value}
+use Rattle.cluster_audit.specs.Objects.{unnamed_value, unreadable_value}
 
 -- the line, or the object in its place
 abbrev pub in_shape : Shape → List ℕ → List ℕ → List ℕ
@@ -57,11 +58,11 @@ unnamed_in shape number = in_shape shape (unnamed_line number) (json_line (unnam
 abbrev pub unlisted_in : Shape → List ℕ → List ℕ
 unlisted_in shape client = in_shape shape (unlisted_line client) (json_line (unlisted_value client))
 
-abbrev pub unread_in : Shape → List ℕ → SpecFault → List ℕ
-unread_in shape client fault = in_shape shape (unread_line client fault) (json_line (unread_value client fault))
+abbrev pub unreadable_in : Shape → List ℕ → Unreadable → List ℕ
+unreadable_in shape client what = in_shape shape (unreadable_line client what) (json_line (unreadable_value client what))
 
-abbrev pub bad_caps_in : Shape → ℕ → List (List ℕ) → List ℕ → ℕ → List ℕ
-bad_caps_in shape number path client session = in_shape shape (bad_caps_line path client session) (json_line (bad_caps_value number path client session))
+abbrev pub unknown_in : Shape → Unknown → ℕ → List (List ℕ) → List ℕ → ℕ → List ℕ
+unknown_in shape unknown number path client session = in_shape shape (unknown_line unknown path client session) (json_line (unknown_value unknown number path client session))
 
 abbrev pub pathless_in : Shape → ℕ → List ℕ → ℕ → List ℕ → List ℕ
 pathless_in shape number client session issued = in_shape shape (pathless_line number client session issued) (json_line (pathless_value number client session issued))

@@ -147,6 +147,7 @@ fn note_inode(
     let place = Inode {
         fs,
         path: names.as_slice(),
+        place: path,
         attr: inode.attr(),
     };
     note_holders(

@@ -1,6 +1,6 @@
 //! What a client holds and nobody behind its key is permitted.
 
-ghost use Rattle.std.specs.Prelude.{◌≡◌, false, length, filter_map, IsTrue, IfSome, MatchOption};
+ghost use Rattle.std.specs.Prelude.{◌≡◌, false, length, filter_map, option_map, IsTrue, IfSome, MatchOption};
 ghost use Rattle.locktable.specs.Targets.{has_any};
 ghost use Rattle.capbits.specs.declared.caller.Caller.{Caller};
 ghost use Rattle.capbits.specs.declared.cap.Cap.{Cap};
@@ -8,7 +8,7 @@ ghost use Rattle.capbits.specs.Caps.{has};
 ghost use Rattle.capgrant.specs.Permitted.{for_writers};
 ghost use Rattle.capgrant.specs.Verdict.{granted};
 ghost use Rattle.cluster_audit.specs.Callers.{IsPermittedToSome, asked};
-ghost use Rattle.cluster_audit.specs.Findings.{IsBeyond, least_access, reason, reasons};
+ghost use Rattle.cluster_audit.specs.Findings.{IsBeyond, least_access, reason, reasons, rules_there};
 
 use crate::callers::permitted_to_some;
 use crate::inode::Inode;
@@ -16,7 +16,8 @@ use arrayvec::ArrayVec;
 use capbits::{Cap, CapSet};
 use capgrant::{Access, Rules, readers_caps, writers_caps};
 use capspec::Grants;
-use policy_analysis::Standing;
+use policy_analysis::{MdsStanding, Standing};
+use release_rules::Verdict;
 
 /// What a client holds of an inode and no caller of it is permitted.
 pub struct Finding {
@@ -25,9 +26,8 @@ pub struct Finding {
     /// The least access that would permit some of them, to read or to write, which no grant allows to anybody. None for `Fa`
     /// alone, which no access permits.
     pub missing: Option<Access>,
-    /// For each grant, in order, the first rule by which it denies that access to its own user, or to user 1 where it names
-    /// none, in all of the groups that it lists. None where no access is missing.
-    pub rules: Rules,
+    /// Why it is denied. No rule where no access is missing.
+    pub denial: Denial,
 }
 
 // Not derived: so the proof of a function that drops one has a single call there.
@@ -36,8 +36,38 @@ impl Drop for Finding {
         let Finding {
             caps: _,
             missing: _,
-            rules: _,
+            denial: _,
         } = self;
+    }
+}
+
+/// Why an access is denied to everybody behind a client's key.
+pub enum Denial {
+    /// For each grant, in order, the first rule by which it denies the access to its own user, or to user 1 where it names
+    /// none, in all of the groups that it lists.
+    Own(Rules),
+    /// What the MDS of a release says.
+    There(MdsStanding),
+}
+
+// Not derived: so the proof of a function that drops one has a single call there.
+impl Drop for Denial {
+    fn drop(self) {
+        match self {
+            Denial::Own(_) => {}
+            Denial::There(_) => {}
+        }
+    }
+}
+
+/// The rules of a release by which each grant denies an access, where nobody is let in. None where no grant lets the client mount.
+pub(crate) fn rules_there(standing: &MdsStanding) -> Option<&[release_rules::Rule]>
+    ensures { option_map (λ rules. rules.now) result ≡ rules_there standing.now }
+{
+    match &standing.verdict {
+        Verdict::CannotMount => None,
+        Verdict::Denied { rules } => Some(rules.as_slice()),
+        _ => Some(&[]),
     }
 }
 
@@ -63,12 +93,12 @@ pub fn beyond(held: CapSet, grants: &Grants, inode: &Inode) -> Option<Finding>
     Some(Finding {
         caps,
         missing,
-        rules: inode.reasons(grants, missing),
+        denial: Denial::Own(inode.reasons(grants, missing)),
     })
 }
 
-// The access that some of these caps need, to read before to write. Either permits the pin.
-fn least_access(caps: CapSet) -> Option<Access>
+/// The access that some of these caps need, to read before to write. Either permits the pin.
+pub(crate) fn least_access(caps: CapSet) -> Option<Access>
     ensures { result ≡ least_access caps }
 {
     if caps.has(Cap::P) || has_any(caps, readers_caps()) {

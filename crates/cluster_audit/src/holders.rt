@@ -1,22 +1,20 @@
 //! What is said of one who holds something of an inode.
-ghost use Rattle.std.specs.Prelude.{◌≡◌, ◌++◌, OnOk, map};
+ghost use Rattle.std.specs.Prelude.{◌≡◌, ◌++◌, OnOk, map, option_map};
 ghost use Rattle.std.specs.List.{flat_map};
-ghost use Rattle.cluster_audit.specs.Findings.{is_unjudged};
-ghost use Rattle.cluster_audit.specs.Shaped.{found_in};
-ghost use Rattle.cluster_audit.specs.Audited.{Adds, IsJudged, IsJudgedBy, SaysOf, clients_of, pathless_of};
+ghost use Rattle.cluster_audit.specs.Audited.{Adds, IsJudged, IsJudgedBy, SaysOf, address_text, clients_of, finding_text, pathless_of};
 
 use crate::clients::ClusterClients;
-use crate::findings::{Finding, beyond};
+use crate::findings::Finding;
+use crate::grants_by::GrantsBy;
 use crate::held::{Entry, Held};
 use crate::inode::Inode;
 use crate::lines::{print_group, print_held};
 use crate::notes::{Detail, Manner, Notes};
 use crate::objects::print_found;
 use crate::unjudged::{
-    print_bad_caps, print_bad_grants, print_pathless, print_unlisted, print_unnamed,
+    Unknown, print_pathless, print_unknown, print_unlisted, print_unnamed, print_unreadable,
 };
 use capbits::read_caps;
-use capspec::{Grants, SpecFaultKind, read_grants};
 use ceph_input::Holder;
 use std::alloc::AllocError;
 use texts::Shape;
@@ -46,13 +44,7 @@ pub(crate) fn note_holder(
         unchecked: clients.is_unchecked(session),
         holder,
     };
-    match entity.caps() {
-        None => {
-            let none = Grants::none(*notes.unknown.allocator())?;
-            note_judged(manner, notes, &entry, &none)
-        }
-        Some(text) => note_by_text(manner, notes, &entry, text),
-    }
+    note_by_caps(manner, notes, &entry, entity.caps())
 }
 
 // Appends a line for each of those who hold something of the inode of this number, to which no path leads.
@@ -88,21 +80,18 @@ fn print_pathless_holder(
     }
 }
 
-// Appends what is said of a client by the text of its grants.
-fn note_by_text(
+// Appends what is said of a client by the text of its grants, if it has one.
+fn note_by_caps(
     manner: Manner,
     notes: &mut Notes,
     entry: &Entry<'_>,
-    text: &[u8],
+    caps: Option<&[u8]>,
 ) -> Result<(), AllocError>
-    ensures { OnOk result (Adds (IsJudgedBy manner entry.now.number entry.now.inode.now entry.now.client.now entry.now.unchecked entry.now.holder.now text.now) notes.old notes.new) }
+    ensures { OnOk result (Adds (IsJudgedBy manner entry.now.number entry.now.inode.now entry.now.client.now entry.now.unchecked entry.now.holder.now (option_map (λ text. text.now) caps.entry)) notes.old notes.new) }
 {
-    match read_grants(*notes.unknown.allocator(), text) {
+    match GrantsBy::read(*notes.unknown.allocator(), manner.mds, caps)? {
         Ok(grants) => note_judged(manner, notes, entry, &grants),
-        Err(fault) => match fault.kind {
-            SpecFaultKind::NoMemory => Err(AllocError),
-            _ => print_bad_grants(&mut notes.unknown, manner.shape, entry.client, &fault),
-        },
+        Err(what) => print_unreadable(&mut notes.unknown, manner.shape, entry.client, &what),
     }
 }
 
@@ -111,61 +100,63 @@ fn note_judged(
     manner: Manner,
     notes: &mut Notes,
     entry: &Entry<'_>,
-    grants: &Grants,
+    grants: &GrantsBy,
 ) -> Result<(), AllocError>
     ensures { OnOk result (Adds (IsJudged manner entry.now.number entry.now.inode.now entry.now.client.now entry.now.unchecked grants.now entry.now.holder.now) notes.old notes.new) }
 {
-    let number = entry.number;
     let inode = entry.inode;
-    let client = entry.client;
     let holder = entry.holder;
     let session = holder.client();
     let Ok(issued) = read_caps(holder.issued()) else {
-        return print_bad_caps(
-            &mut notes.unknown,
-            manner.shape,
-            number,
-            inode.path,
-            client,
-            session,
-        );
+        return print_unknown(&mut notes.unknown, manner.shape, Unknown::Spelling, entry);
     };
     let Ok(pending) = read_caps(holder.pending()) else {
-        return print_bad_caps(
-            &mut notes.unknown,
-            manner.shape,
-            number,
-            inode.path,
-            client,
-            session,
-        );
+        return print_unknown(&mut notes.unknown, manner.shape, Unknown::Spelling, entry);
     };
+    let beyond = grants.beyond(*notes.unknown.allocator(), issued, inode)?;
+    print_address(&mut notes.unknown, manner.shape, entry, beyond.is_open)?;
     let held = Held {
-        number,
+        number: entry.number,
         path: inode.path,
-        client,
+        client: entry.client,
         session,
         unchecked: entry.unchecked,
         issued,
         pending,
     };
-    match beyond(issued, grants, inode) {
-        None => Ok(()),
-        Some(found) => print_finding(&mut notes.found, manner, &held, &found),
+    print_finding(&mut notes.found, manner, &held, &beyond.finding)
+}
+
+// Appends that what is held is permitted from some addresses alone, where it is.
+fn print_address(
+    text: &mut Vec<u8>,
+    shape: Shape,
+    entry: &Entry<'_>,
+    is_open: bool,
+) -> Result<(), AllocError>
+    ensures { OnOk result (text.new.items ≡ text.old.items
+        ++ address_text shape entry.now.number entry.now.inode.now.path entry.now.client.now entry.now.holder.now.client is_open) }
+{
+    if is_open {
+        print_unknown(text, shape, Unknown::Address, entry)
+    } else {
+        Ok(())
     }
 }
 
-// Appends what a client holds of an inode and nobody behind its key is permitted.
+// Appends what a client holds of an inode and nobody behind its key is permitted, if anything.
 fn print_finding(
     text: &mut Vec<u8>,
     manner: Manner,
     held: &Held<'_>,
-    found: &Finding,
+    finding: &Option<Finding>,
 ) -> Result<(), AllocError>
     ensures { OnOk result (text.new.items ≡ text.old.items
-        ++ found_in manner held.now.number (map (λ name. name.now) held.now.path.now) held.now.client.now held.now.session held.now.issued held.now.pending found.now
-        (is_unjudged held.now.unchecked found.now.caps)) }
+        ++ finding_text manner held.now.number (map (λ name. name.now) held.now.path.now) held.now.client.now held.now.session held.now.unchecked held.now.issued held.now.pending finding.now) }
 {
+    let Some(found) = finding else {
+        return Ok(());
+    };
     let detail = manner.detail;
     match (manner.shape, detail) {
         (Shape::Objects, _) => print_found(text, detail, held, found),

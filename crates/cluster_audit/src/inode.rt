@@ -4,7 +4,7 @@ ghost use Rattle.policy_analysis.specs.Standing.{AnswersOf};
 ghost use Rattle.cluster_audit.specs.Callers.{wanted_of};
 
 use capgrant::{Access, Attr};
-use capspec::{FsName, Grants};
+use capspec::{FsName, Grants, TreePath};
 use policy_analysis::{Standing, Wanted};
 use std::marker::Model;
 
@@ -14,6 +14,8 @@ pub struct Inode<'a> {
     pub fs: &'a FsName,
     /// The names from the root down.
     pub path: &'a [&'a [u8]],
+    /// The path that they are.
+    pub place: &'a TreePath,
     /// The owner, the group and the mode.
     pub attr: &'a Attr,
 }
@@ -24,6 +26,7 @@ impl Drop for Inode<'_> {
         let Inode {
             fs: _,
             path: _,
+            place: _,
             attr: _,
         } = self;
     }
@@ -32,11 +35,10 @@ impl Drop for Inode<'_> {
 impl<'a> Model for Inode<'a> {
     ghost use Rattle.std.specs.Prelude.{map};
     ghost use Rattle.cluster_audit.specs.Callers.{Inode as Seen};
-    ghost use Rattle.cluster_audit.specs.Callers.{inode};
 
     ghost Value = { Seen };
 
-    ghost view = { λ i. inode i.fs.now (map (λ name. name.now) i.path.now) i.attr.now };
+    ghost view = { λ i. record { fs = i.fs.now; path = map (λ name. name.now) i.path.now; place = i.place.now; attr = i.attr.now } };
 }
 
 impl Inode<'_> {

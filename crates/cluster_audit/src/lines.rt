@@ -3,13 +3,14 @@ ghost use Rattle.std.specs.Prelude.{◌≡◌, ◌++◌, OnOk, codes, map};
 ghost use Rattle.texts.specs.Explaining.{path_text};
 ghost use Rattle.texts.specs.Quoting.{quoted};
 ghost use Rattle.cluster_audit.specs.Findings.{is_unjudged};
-ghost use Rattle.cluster_audit.specs.Lines.{bad_caps_line, beyond_text, group_line, held_line, pathless_line, place_text, revoked_text, unjudged_text, who_text, why_text};
+ghost use Rattle.cluster_audit.specs.Lines.{beyond_text, denial_text, group_line, held_line, pathless_line, place_text, revoked_text, unjudged_text, unknown_line, unknown_text, who_text, why_text};
 
-use crate::findings::Finding;
+use crate::findings::{Denial, Finding, rules_there};
 use crate::held::Held;
+use crate::unjudged::Unknown;
 use capbits::{CapSet, print_caps, print_numbered, print_str};
 use std::alloc::AllocError;
-use texts::{print_failures, print_path, print_quoted};
+use texts::{print_failures, print_mds_failures, print_path, print_quoted};
 
 // Appends the line for a client that holds of an inode what nobody behind its key is permitted.
 pub(crate) fn print_held(
@@ -114,25 +115,48 @@ fn print_revoked(text: &mut Vec<u8>, revoked: CapSet) -> Result<(), AllocError>
 
 // Appends by which rules the grants deny the access that is missing.
 fn print_why(text: &mut Vec<u8>, found: &Finding) -> Result<(), AllocError>
-    ensures { OnOk result (text.new.items ≡ text.old.items ++ why_text found.now.missing found.now.rules) }
+    ensures { OnOk result (text.new.items ≡ text.old.items ++ why_text found.now.missing found.now.denial) }
 {
     match found.missing {
         None => print_str(text, "no access permits it"),
-        Some(_) => print_failures(text, found.rules.as_slice()),
+        Some(_) => print_denial(text, &found.denial),
     }
 }
 
-// Appends that what a client holds is spelled otherwise than caps are.
-pub(crate) fn print_bad_caps_line(
+fn print_denial(text: &mut Vec<u8>, denial: &Denial) -> Result<(), AllocError>
+    ensures { OnOk result (text.new.items ≡ text.old.items ++ denial_text denial.now) }
+{
+    match denial {
+        Denial::Own(rules) => print_failures(text, rules.as_slice()),
+        Denial::There(standing) => match rules_there(standing) {
+            Some(rules) => print_mds_failures(text, rules),
+            None => print_str(text, "no grant lets the client mount"),
+        },
+    }
+}
+
+// Appends what is not known of what a client holds.
+pub(crate) fn print_unknown_line(
     text: &mut Vec<u8>,
+    unknown: Unknown,
     path: &[&[u8]],
     client: &[u8],
     session: u64,
 ) -> Result<(), AllocError>
-    ensures { OnOk result (text.new.items ≡ text.old.items ++ bad_caps_line (map (λ name. name.now) path.now) client.now session) }
+    ensures { OnOk result (text.new.items ≡ text.old.items ++ unknown_line unknown (map (λ name. name.now) path.now) client.now session) }
 {
     print_place(text, path, client, session)?;
-    print_str(text, " holds what is not known\n")
+    print_str(text, " holds what is ")?;
+    print_str(text, unknown_text(unknown))
+}
+
+fn unknown_text(unknown: Unknown) -> &'static str
+    ensures { result.now ≡ unknown_text unknown }
+{
+    match unknown {
+        Unknown::Spelling => "not known\n",
+        Unknown::Address => "permitted from some addresses alone\n",
+    }
 }
 
 // Appends that a client holds something of an inode to which no path leads.

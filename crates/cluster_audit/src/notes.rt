@@ -1,5 +1,6 @@
 //! What an audit finds, as lines.
 
+use release_rules::Release;
 use std::alloc::Global;
 use texts::Shape;
 
@@ -46,9 +47,11 @@ pub enum Detail {
     Groups,
 }
 
-/// How an audit tells what it finds.
+/// By whose rules an audit judges, and how it tells what it finds.
 #[derive(Clone, Copy)]
 pub struct Manner {
+    /// The release by whose rules is judged; this server's where there is none.
+    pub mds: Option<Release>,
     /// In which detail.
     pub detail: Detail,
     /// In which shape.

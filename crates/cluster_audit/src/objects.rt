@@ -4,9 +4,9 @@ ghost use Rattle.capbits.specs.Sets.{minus};
 ghost use Rattle.texts.specs.Pieces.{piece_value};
 ghost use Rattle.texts.specs.Values.{bytes_value, or_null};
 ghost use Rattle.cluster_audit.specs.Findings.{is_unjudged};
-ghost use Rattle.cluster_audit.specs.Objects.{access_value, caps_or_null, conflict_object, found_object, group_object, path_value, session_value, unjudged_value, why_value};
+ghost use Rattle.cluster_audit.specs.Objects.{access_value, caps_or_null, conflict_object, denial_value, found_object, group_object, path_value, session_value, unjudged_value, why_value};
 
-use crate::findings::Finding;
+use crate::findings::{Denial, Finding, rules_there};
 use crate::held::{Held, NamedConflict};
 use crate::notes::Detail;
 use capbits::{CapSet, print_numbered, print_str};
@@ -99,11 +99,23 @@ pub(crate) fn print_group_object(
 
 // By which rules the grants deny the access that is missing. Null where no access permits it.
 fn why(found: &Finding) -> Piece<'_>
-    ensures { piece_value result ≡ why_value found.now.missing found.now.rules }
+    ensures { piece_value result ≡ why_value found.now.missing found.now.denial }
 {
     match found.missing {
         None => Piece::Null,
-        Some(_) => Piece::Rules(found.rules.as_slice()),
+        Some(_) => denial_piece(&found.denial),
+    }
+}
+
+fn denial_piece(denial: &Denial) -> Piece<'_>
+    ensures { piece_value result ≡ denial_value denial.now }
+{
+    match denial {
+        Denial::Own(rules) => Piece::Rules(rules.as_slice()),
+        Denial::There(standing) => match rules_there(standing) {
+            Some(rules) => Piece::MdsRules(rules),
+            None => Piece::Word("cannot-mount"),
+        },
     }
 }
 

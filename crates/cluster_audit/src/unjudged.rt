@@ -1,12 +1,23 @@
 //! What is said where it is not known what may be held.
 ghost use Rattle.std.specs.Prelude.{◌≡◌, ◌++◌, OnOk, map};
-ghost use Rattle.cluster_audit.specs.Shaped.{bad_caps_in, pathless_in, unlisted_in, unnamed_in, unread_in};
+ghost use Rattle.cluster_audit.specs.Shaped.{pathless_in, unknown_in, unlisted_in, unnamed_in, unreadable_in};
+ghost use Rattle.cluster_audit.specs.Objects.{unknown_word};
 
-use crate::lines::{print_bad_caps_line, print_pathless_line};
+use crate::grants_by::Unreadable;
+use crate::held::Entry;
+use crate::lines::{print_pathless_line, print_unknown_line};
 use capbits::{print_numbered, print_str};
-use capspec::SpecFault;
 use std::alloc::AllocError;
-use texts::{Piece, Shape, fault_word, print_pieces, print_quoted, print_unread};
+use texts::{Piece, Shape, fault_word, print_mds_unread, print_pieces, print_quoted, print_unread};
+
+/// What is not known of what a client holds.
+#[derive(Clone, Copy)]
+pub(crate) enum Unknown {
+    /// Which caps it is.
+    Spelling,
+    /// Whether the client's address permits it.
+    Address,
+}
 
 // Appends that no session names a client.
 pub(crate) fn print_unnamed(text: &mut Vec<u8>, shape: Shape, number: u64) -> Result<(), AllocError>
@@ -50,18 +61,21 @@ pub(crate) fn print_unlisted(
     }
 }
 
-// Appends that the grants of a client can't be read.
-pub(crate) fn print_bad_grants(
+// Appends why the grants of a client can't be read.
+pub(crate) fn print_unreadable(
     text: &mut Vec<u8>,
     shape: Shape,
     client: &[u8],
-    fault: &SpecFault,
+    what: &Unreadable,
 ) -> Result<(), AllocError>
-    ensures { OnOk result (text.new.items ≡ text.old.items ++ unread_in shape client.now fault.now) }
+    ensures { OnOk result (text.new.items ≡ text.old.items ++ unreadable_in shape client.now what.now) }
 {
-    match shape {
-        Shape::Lines => print_unread(text, client, fault),
-        Shape::Objects => print_pieces(
+    match (shape, what) {
+        (Shape::Lines, Unreadable::Own(fault)) => print_unread(text, client, fault),
+        (Shape::Lines, Unreadable::There(release, at)) => {
+            print_mds_unread(text, client, *release, *at)
+        }
+        (Shape::Objects, Unreadable::Own(fault)) => print_pieces(
             text,
             &[
                 ("kind", Piece::Word("unread")),
@@ -70,32 +84,52 @@ pub(crate) fn print_bad_grants(
                 ("at", Piece::Number(fault.at as u64)),
             ],
         ),
+        (Shape::Objects, Unreadable::There(release, at)) => print_pieces(
+            text,
+            &[
+                ("kind", Piece::Word("unread")),
+                ("client", Piece::Bytes(client)),
+                ("mds", Piece::Word(release.version())),
+                ("at", Piece::Number(*at as u64)),
+            ],
+        ),
     }
 }
 
-// Appends that what a client holds is spelled otherwise than caps are.
-pub(crate) fn print_bad_caps<'x>(
+// Appends what is not known of what a client holds.
+pub(crate) fn print_unknown<'x>(
     text: &mut Vec<u8>,
     shape: Shape,
-    number: u64,
-    path: &'x [&'x [u8]],
-    client: &'x [u8],
-    session: u64,
+    unknown: Unknown,
+    entry: &Entry<'x>,
 ) -> Result<(), AllocError>
-    ensures { OnOk result (text.new.items ≡ text.old.items ++ bad_caps_in shape number (map (λ name. name.now) path.now) client.now session) }
+    ensures { OnOk result (text.new.items ≡ text.old.items
+        ++ unknown_in shape unknown entry.now.number entry.now.inode.now.path entry.now.client.now entry.now.holder.now.client) }
 {
+    let inode = entry.inode;
+    let client = entry.client;
+    let session = entry.holder.client();
     match shape {
-        Shape::Lines => print_bad_caps_line(text, path, client, session),
+        Shape::Lines => print_unknown_line(text, unknown, inode.path, client, session),
         Shape::Objects => print_pieces(
             text,
             &[
-                ("kind", Piece::Word("unknown-caps")),
-                ("inode", Piece::Number(number)),
-                ("path", Piece::Path(path)),
+                ("kind", Piece::Word(unknown_word(unknown))),
+                ("inode", Piece::Number(entry.number)),
+                ("path", Piece::Path(inode.path)),
                 ("client", Piece::Bytes(client)),
                 ("session", Piece::Number(session)),
             ],
         ),
+    }
+}
+
+fn unknown_word(unknown: Unknown) -> &'static str
+    ensures { result.now ≡ unknown_word unknown }
+{
+    match unknown {
+        Unknown::Spelling => "unknown-caps",
+        Unknown::Address => "depends-on-address",
     }
 }
 

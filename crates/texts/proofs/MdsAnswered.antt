@@ -56,30 +56,30 @@ one_failure k r q s t same =
 abbrev further : ℕ × Rule → List ℕ
 further failure = codes ", " ++ mds_failure failure
 
--- a line feed stands behind the last
-one_row : (n : ℕ) (rs qs : List Rule) (s t : List ℕ) → flat_map further (enumerate_from n rs) ++ 10 ∷ s ≡ flat_map further (enumerate_from n qs) ++ 10 ∷ t → (rs ≡ qs) × (s ≡ t)
-one_row n [] [] s t same = (refl, append_cancel_left (codes "\n") s t same)
-one_row n [] (q ∷ qs) s t same = clash 10 44 (omega arith) (ap first_byte same)
-one_row n (r ∷ rs) [] s t same = clash 10 44 (omega arith) (sym (ap first_byte same))
-one_row n (r ∷ rs) (q ∷ qs) s t same =
+-- behind the last no comma stands
+one_row : (n : ℕ) (rs qs : List Rule) (s t : List ℕ) → first_byte s < 44 → first_byte t < 44 → flat_map further (enumerate_from n rs) ++ s ≡ flat_map further (enumerate_from n qs) ++ t → (rs ≡ qs) × (s ≡ t)
+one_row n [] [] s t below too same = (refl, same)
+one_row n [] (q ∷ qs) s t below too same = clash (first_byte s) 44 below (ap first_byte same)
+one_row n (r ∷ rs) [] s t below too same = clash (first_byte t) 44 too (sym (ap first_byte same))
+one_row n (r ∷ rs) (q ∷ qs) s t below too same =
     let more : List ℕ = flat_map further (enumerate_from (n + 1) rs) in
     let others : List ℕ = flat_map further (enumerate_from (n + 1) qs) in
-    let behind = append_cancel_left (codes ", ") (mds_failure (n, r) ++ (more ++ 10 ∷ s)) (mds_failure (n, q) ++ (others ++ 10 ∷ t)) (sym (append_assoc (further (n, r)) more (10 ∷ s)) ∙ same ∙ append_assoc (further (n, q)) others (10 ∷ t)) in
-    let both = one_failure n r q (more ++ 10 ∷ s) (others ++ 10 ∷ t) behind in
-    let rest = one_row (n + 1) rs qs s t both.1 in
+    let behind = append_cancel_left (codes ", ") (mds_failure (n, r) ++ (more ++ s)) (mds_failure (n, q) ++ (others ++ t)) (sym (append_assoc (further (n, r)) more s) ∙ same ∙ append_assoc (further (n, q)) others t) in
+    let both = one_failure n r q (more ++ s) (others ++ t) behind in
+    let rest = one_row (n + 1) rs qs s t below too both.1 in
     let here : r ≡ q = both.0 in
     let all : rs ≡ qs = rest.0 in
     (cc, rest.1)
 
-pub one_list : (rs qs : List Rule) (s t : List ℕ) → mds_failures rs ++ 10 ∷ s ≡ mds_failures qs ++ 10 ∷ t → (rs ≡ qs) × (s ≡ t)
-one_list [] [] s t same = (refl, append_cancel_left (codes "no grants\n") s t same)
-one_list [] (q ∷ qs) s t same = clash 103 110 (omega arith) (sym (ap first_byte same))
-one_list (r ∷ rs) [] s t same = clash 103 110 (omega arith) (ap first_byte same)
-one_list (r ∷ rs) (q ∷ qs) s t same =
+pub one_list : (rs qs : List Rule) (s t : List ℕ) → first_byte s < 44 → first_byte t < 44 → mds_failures rs ++ s ≡ mds_failures qs ++ t → (rs ≡ qs) × (s ≡ t)
+one_list [] [] s t below too same = (refl, append_cancel_left (codes "no grants") s t same)
+one_list [] (q ∷ qs) s t below too same = clash 103 110 (omega arith) (sym (ap first_byte same))
+one_list (r ∷ rs) [] s t below too same = clash 103 110 (omega arith) (ap first_byte same)
+one_list (r ∷ rs) (q ∷ qs) s t below too same =
     let more : List ℕ = flat_map further (enumerate_from 2 rs) in
     let others : List ℕ = flat_map further (enumerate_from 2 qs) in
-    let both = one_failure 1 r q (more ++ 10 ∷ s) (others ++ 10 ∷ t) (sym (append_assoc (mds_failure (1, r)) more (10 ∷ s)) ∙ same ∙ append_assoc (mds_failure (1, q)) others (10 ∷ t)) in
-    let rest = one_row 2 rs qs s t both.1 in
+    let both = one_failure 1 r q (more ++ s) (others ++ t) (sym (append_assoc (mds_failure (1, r)) more s) ∙ same ∙ append_assoc (mds_failure (1, q)) others t) in
+    let rest = one_row 2 rs qs s t below too both.1 in
     let here : r ≡ q = both.0 in
     let all : rs ≡ qs = rest.0 in
     (cc, rest.1)
@@ -148,8 +148,8 @@ module _ (a b : MdsAccess) (p q : List (List ℕ)) (s t : List ℕ) (fits : HasS
       no_mount rs (10 ∷ t) (10 ∷ s) (sym (behind (codes "denied ") (mds_failures rs ++ 10 ∷ s) (codes "no grant lets the client mount" ++ 10 ∷ t) same).2)
   by_verdicts (Denied rs) (Denied qs) low high same =
       let all = behind (codes "denied ") (mds_failures rs ++ 10 ∷ s) (mds_failures qs ++ 10 ∷ t) same in
-      let list = one_list rs qs s t all.2 in
-      (all.0, all.1, ap Denied list.0, list.1)
+      let list = one_list rs qs (10 ∷ s) (10 ∷ t) (omega arith) (omega arith) all.2 in
+      (all.0, all.1, ap Denied list.0, append_cancel_left (codes "\n") s t list.1)
 
 pub one_mds_line_to : (a b : MdsAccess) (p q : List (List ℕ)) (v w : Verdict) (s t : List ℕ) → HasSmallNumbers a → HasSmallNumbers b → HasMdsGrant v → HasMdsGrant w
     → mds_line a p v ++ 10 ∷ s ≡ mds_line b q w ++ 10 ∷ t → (a ≡ b) × (path_text p ≡ path_text q) × (v ≡ w) × (s ≡ t)

@@ -162,7 +162,7 @@ module _ (s t : List ℕ) where
   by_kind (Denied rs) by_inode (Allowed h) true low high p q kind same = clash 1 4 (omega arith) (sym kind)
   by_kind (Denied rs) by_inode (DependsOnAddress h) false low high p q kind same = clash 2 4 (omega arith) (sym kind)
   by_kind (Denied rs) by_inode (DependsOnAddress h) true low high p q kind same = clash 3 4 (omega arith) (sym kind)
-  by_kind (Denied rs) by_inode (Denied qs) also_inode low high p q kind same = let list = one_list rs qs s t same in (ap Denied list.0, p ∙ sym q, list.1)
+  by_kind (Denied rs) by_inode (Denied qs) also_inode low high p q kind same = let list = one_list rs qs (10 ∷ s) (10 ∷ t) (omega arith) (omega arith) same in (ap Denied list.0, p ∙ sym q, append_cancel_left (codes "\n") s t list.1)
 
 -- ---- all of it
 

@@ -65,13 +65,14 @@ pub(crate) fn print_mds_reason(text: &mut Vec<u8>, verdict: &Verdict) -> Result<
         }
         Verdict::Denied { rules } => {
             print_str(text, " ")?;
-            print_failures(text, rules.as_slice())
+            print_mds_failures(text, rules.as_slice())
         }
     }
 }
 
-// Appends the rules by which the grants fail, the number of each grant from 1.
-fn print_failures(text: &mut Vec<u8>, rules: &[Rule]) -> Result<(), AllocError>
+/// Appends the rules of an MDS by which the grants fail, the number of each grant from 1. `AllocError` where no memory is left for it; some of it may
+/// stand in the text then.
+pub fn print_mds_failures(text: &mut Vec<u8>, rules: &[Rule]) -> Result<(), AllocError>
     ensures { OnOk result (text.new.items ≡ text.old.items ++ mds_failures rules.now) }
 {
     if rules.is_empty() {

@@ -35,8 +35,8 @@ returns-in-Each c =
     on_ok_weaker c.print_pieces.result
     (λ more. more
     ∙ ap (λ (w : Data). line w (piece_value c.access_if.result) (piece_value c.revoked_if.result) (piece_value c.unjudged_if.result)) c.why.ensures
-    ∙ ap (λ (m : Data). line (why_value f.missing f.rules) m (piece_value c.revoked_if.result) (piece_value c.unjudged_if.result)) c.access_if.ensures
-    ∙ ap (λ (r : Data). line (why_value f.missing f.rules) missing r (piece_value c.unjudged_if.result)) c.revoked_if.ensures
-    ∙ ap (line (why_value f.missing f.rules) missing revoked) (c.unjudged_if.ensures ∙ ap unjudged_value c.is_unjudged.ensures)
+    ∙ ap (λ (m : Data). line (why_value f.missing f.denial) m (piece_value c.revoked_if.result) (piece_value c.unjudged_if.result)) c.access_if.ensures
+    ∙ ap (λ (r : Data). line (why_value f.missing f.denial) missing r (piece_value c.unjudged_if.result)) c.revoked_if.ensures
+    ∙ ap (line (why_value f.missing f.denial) missing revoked) (c.unjudged_if.ensures ∙ ap unjudged_value c.is_unjudged.ensures)
     ∙ ap (λ (d : Detail). old ++ found_object d h.number path h.client.now h.session h.issued h.pending f unjudged) (sym c.in-Each.is))
     c.print_pieces.ensures.line

@@ -2,8 +2,8 @@ use Rattle.std.proofs.Common.{arith, ap, ◌∙◌}
 use Rattle.std.specs.Prelude.{codes}
 use Rattle.texts.specs.Mds.{mds_failure}
 use Rattle.texts.proofs.Numbered.{printed-first, printed-more}
-use Rattle.texts.proofs.mds_text.print_failures.Goals as goal
-use Rattle.texts.proofs.mds_text.print_failures.Goals.{else-place-gt0, then-place-gt0+in_ok-print_str-2}
+use Rattle.texts.proofs.mds_text.print_mds_failures.Goals as goal
+use Rattle.texts.proofs.mds_text.print_mds_failures.Goals.{else-place-gt0, then-place-gt0+in_ok-print_str-2}
 
 pub loop-place-preserved : goal.loop-place-preserved
 loop-place-preserved c =
