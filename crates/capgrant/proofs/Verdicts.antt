@@ -38,7 +38,7 @@ one_each q (g ∷ grants) none =
     one_more_rule (first_failing q g) (first_failures q grants) (length grants) parts.0 (one_each q grants parts.1)
 
 -- an element passes where the first that does comes before the end
-any_place : {X : Type 0} (p : X → Bool) (xs : List X) → list_any p xs ≡ ltb (position_or_len p xs) (length xs)
+pub any_place : {X : Type 0} (p : X → Bool) (xs : List X) → list_any p xs ≡ ltb (position_or_len p xs) (length xs)
 any_place p [] = refl
 any_place p (x ∷ xs) =
     elim (which (p x)) [

@@ -39,13 +39,13 @@ split-append (b ∷ bs) r =
           ∙ ap (λ (ps : List (List ℕ)). ps ++ parts) (sym (slice_split-cons_no is_slash b bs e))
     ]
 
-names-append : (a r : List ℕ) → names_of (a ++ 47 ∷ r) ≡ names_of a ++ names_of (47 ∷ r)
+pub names-append : (a r : List ℕ) → names_of (a ++ 47 ∷ r) ≡ names_of a ++ names_of (47 ∷ r)
 names-append a r =
     ap (filter has_bytes) (split-append a r) ∙ filter-append has_bytes (slice_split is_slash a) (slice_split is_slash r)
     ∙ ap (λ (names : List (List ℕ)). names_of a ++ names) (sym (names_of-slashes (47 ∷ []) r refl))
 
 -- a list of names is that of its text
-name_has_bytes : (name : List ℕ) → IsTrue (is_name name) → (has_bytes name ≡ true) × (list_all is_other name ≡ true)
+pub name_has_bytes : (name : List ℕ) → IsTrue (is_name name) → (has_bytes name ≡ true) × (list_all is_other name ≡ true)
 name_has_bytes name is =
     let both = and_parts (has_bytes name) (not (list_any is_slash name)) is in
     (both.0, none_of is_slash name (not-true (list_any is_slash name) both.1))

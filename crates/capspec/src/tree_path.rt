@@ -105,6 +105,14 @@ impl TreePath {
         split_names(alloc, self.text.as_slice())
     }
 
+    /// Each of its names has a byte, and no slash. This says so to a caller's proof; it does nothing.
+    #[inline(always)]
+    pub fn are_names(&self)
+        ensures { All (λ name. IsTrue (is_name name)) self.now }
+    {
+        let _text = &self.text;
+    }
+
     /// Whether this path is the beginning of these names, so that they lead from the root to it or below it. Needs no memory.
     #[inline(always)]
     pub fn leads_to(&self, names: &[&[u8]]) -> bool

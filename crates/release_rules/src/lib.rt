@@ -29,7 +29,7 @@ pub use grant::{GidList, Grant, Grants, Text};
 pub use judging::{
     changes_attributes, client_refuses, first_somewhere, is_for_everything, may_mount, mds_verdict,
 };
-pub use network::{read_address, writes_network};
+pub use network::{InNetwork, in_network, read_address, writes_network};
 pub use paths::directory_of;
 pub use question::{Question, user_of};
 pub use reading::{Unread, read_grants};

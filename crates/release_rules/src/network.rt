@@ -13,7 +13,7 @@ use std::net::IpAddr;
 
 /// Whether a client is in the network of a grant.
 #[derive(Clone, Copy)]
-pub(crate) enum InNetwork {
+pub enum InNetwork {
     /// It is, or the grant is for every network.
     Yes,
     /// It is not, or what the grant has for a network is none.
@@ -23,7 +23,7 @@ pub(crate) enum InNetwork {
 }
 
 /// Whether the address, where it is told, is in the network of a grant, where the grant has one.
-pub(crate) fn in_network(network: &Option<Text>, address: Option<IpAddr>) -> InNetwork
+pub fn in_network(network: &Option<Text>, address: Option<IpAddr>) -> InNetwork
     ensures { result ≡ in_network network.now (option_map address_of address) }
 {
     let Some(text) = network else {
