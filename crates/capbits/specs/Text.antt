@@ -1,5 +1,5 @@
 -- The one spelling of a set of caps, as ASCII bytes.
-use Rattle.std.specs.Prelude.{◌≡◌, ℕ, ◌<◌, ◌≤◌, List, [], ◌∷◌, ◌++◌, length, take, map, filter, codes}
+use Rattle.std.specs.Prelude.{ℕ, List, [], ◌∷◌, ◌++◌, map, filter, codes}
 use Rattle.capbits.specs.declared.cap.Cap.{Cap}
 use Rattle.capbits.specs.declared.cap.Cap.TheVariants.{As, Ax, Fa, Fb, Fc, Fl, Fr, Fs, Fw, Fx, Ls, Lx, P, Xs, Xx}
 use Rattle.capbits.specs.declared.cap.Part.{Part}
@@ -58,13 +58,3 @@ groups_in s (part ∷ parts) = group_of s part ++ groups_in s parts
 -- the spelling: the pin, then the parts in this order
 unfoldable pub text_of : Caps → List ℕ
 text_of s = or_dash (letters_in s (P ∷ []) ++ groups_in s (A ∷ L ∷ X ∷ F ∷ []))
-
--- the text of some set begins with these bytes
-abbrev pub BeginsText : List ℕ → Type 0
-BeginsText front = (s : Caps) × ((rest : List ℕ) × (text_of s ≡ front ++ rest))
-
--- so many first bytes begin the text of some set, and no more of them do
-pub record IsLongestBeginning (bytes : List ℕ) (at : ℕ) : Type 0 where
-  pub within : at ≤ length bytes
-  pub begins : BeginsText (take at bytes)
-  pub longest : (n : ℕ) → at < n → n ≤ length bytes → ¬ BeginsText (take n bytes)

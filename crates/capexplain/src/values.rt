@@ -3,9 +3,8 @@ ghost use Rattle.std.specs.Prelude.{◌≡◌, ◌^◌, IfOk, IfErr};
 ghost use Rattle.texts.specs.declared.fault.LineFault.TheVariants as faults;
 ghost use Rattle.capexplain.specs.Values.{Spells, SpellsNone, client_in, groups_in, ino_in, mode_in, number_below, number_in, open_mode_in, part_in};
 
-use capbits::{
-    CapSet, ClientId, Groups, Ino, Mode, Part, read_caps, read_mode, read_u32, read_u64,
-};
+use cap_text::read_caps;
+use capbits::{CapSet, ClientId, Groups, Ino, Mode, Part, read_mode, read_u32, read_u64};
 use capstep::OpenMode;
 use texts::LineFault;
 

@@ -14,7 +14,7 @@ use crate::objects::print_found;
 use crate::unjudged::{
     Unknown, print_pathless, print_unknown, print_unlisted, print_unnamed, print_unreadable,
 };
-use capbits::read_caps;
+use cap_text::read_caps;
 use ceph_input::Holder;
 use std::alloc::AllocError;
 use texts::Shape;

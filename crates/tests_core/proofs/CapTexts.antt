@@ -7,7 +7,8 @@ use Rattle.capbits.specs.declared.cap.Part.TheVariants.{A, F, L, X}
 use Rattle.capbits.specs.Caps.{Caps, bits_of}
 use Rattle.capbits.specs.SetNumbers.{IsCaps-bits_of}
 use Rattle.capbits.specs.Sets.{IsSubset, and_parts, caps_in, caps_of_part, has-meet, meet, no_caps}
-use Rattle.capbits.specs.Text.{BeginsText, IsLongestBeginning, text_of}
+use Rattle.cap_text.specs.Beginnings.{BeginsText, IsLongestBeginning}
+use Rattle.capbits.specs.Text.{text_of}
 use Rattle.capbits.proofs.Following.{apart_caps, apart_parts, apart_parts_behind, behind_capital, behind_letter, first_rest, letters_of, letters_of_text}
 use Rattle.capbits.proofs.Following.{no_letter, rest_of}
 use Rattle.tests_core.proofs.Unfolded.{sets}

@@ -3,7 +3,8 @@
 
 use crate::asserting::same;
 use arrayvec::ArrayVec;
-use capbits::{CapSet, CapText, read_caps, write_caps};
+use cap_text::{CapText, read_caps};
+use capbits::{CapSet, write_caps};
 use capgrant::{Rule, Rules};
 
 #[test]

@@ -2,7 +2,8 @@
 
 use crate::asserting::same;
 use crate::values::printed;
-use capbits::{CapText, ChangeError, Refusal, TooManyGroups};
+use cap_text::CapText;
+use capbits::{ChangeError, Refusal, TooManyGroups};
 use capscript::ServeFault;
 use capspec::{SpecFault, SpecFaultKind};
 use capstep::stop::Stop;

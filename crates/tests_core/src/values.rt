@@ -1,7 +1,8 @@
 //! The texts that values print, and the values that texts and numbers say.
 
 use crate::asserting::{made, present};
-use capbits::{Caller, CapSet, Groups, Ino, read_caps, read_mode, read_u32, read_u64, write_caps};
+use cap_text::read_caps;
+use capbits::{Caller, CapSet, Groups, Ino, read_mode, read_u32, read_u64, write_caps};
 use capgrant::Attr;
 use capspec::{FsName, Grants, read_grants};
 use std::alloc::Global;

@@ -7,7 +7,8 @@ ghost use Rattle.capbits.specs.declared.cap.Cap.TheVariants.{As, Ax, Fb, Fc, Fr,
 ghost use Rattle.capbits.specs.declared.cap.Part.TheVariants.{A, F, L, X};
 ghost use Rattle.capbits.specs.Caps.{Caps, all_caps, bits_of, caps_of, has};
 ghost use Rattle.capbits.specs.Sets.{IsSubset, caps_in, caps_of_part, is_empty, meet, minus, no_caps, of_part, union};
-ghost use Rattle.capbits.specs.Text.{IsLongestBeginning, text_of};
+ghost use Rattle.capbits.specs.Text.{text_of};
+ghost use Rattle.cap_text.specs.Beginnings.{IsLongestBeginning};
 ghost use Rattle.tests_core.specs.CapTexts.{mine, other};
 
 /// Sets and the texts that they have.

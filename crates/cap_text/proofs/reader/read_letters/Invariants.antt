@@ -1,6 +1,6 @@
 use Rattle.std.proofs.Common.{take}
-use Rattle.capbits.proofs.Reading.{HasRead}
-use Rattle.capbits.proofs.reader.read_letters.Given as goal
+use Rattle.cap_text.proofs.Reading.{HasRead}
+use Rattle.cap_text.proofs.reader.read_letters.Given as goal
 
 -- what was read, and what can follow
 abbrev pub invariant-loop-at : goal.invariant-loop-at

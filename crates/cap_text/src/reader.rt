@@ -4,10 +4,10 @@ ghost use Rattle.std.specs.List.{list_any};
 ghost use Rattle.capbits.specs.declared.cap.Cap.{Cap};
 ghost use Rattle.capbits.specs.declared.cap.Part.{Part};
 ghost use Rattle.capbits.specs.Caps.{Caps};
-ghost use Rattle.capbits.specs.Text.{IsLongestBeginning, capital_of, letter_of, text_of};
+ghost use Rattle.capbits.specs.Text.{capital_of, letter_of, text_of};
+ghost use Rattle.cap_text.specs.Beginnings.{IsLongestBeginning};
 
-use crate::cap::{Cap, Part};
-use crate::set::CapSet;
+use capbits::{Cap, CapSet, Part};
 use thiserror::Error;
 
 /// The answer where a text is the text of no set of caps.

@@ -3,9 +3,9 @@ use Rattle.std.proofs.lemmas.List.{take_all}
 use Rattle.capbits.specs.declared.cap.Cap.TheVariants.{P}
 use Rattle.capbits.specs.declared.cap.Part.TheVariants.{A, F, L, X}
 use Rattle.capbits.proofs.Following.{text_of-injective}
-use Rattle.capbits.proofs.Reading.{HasRead, all_read, capital_step, fault_inside, letter_missing, letter_step, not_a_text, read_nothing, wrong_byte}
-use Rattle.capbits.proofs.reader.read_letters.Goals as goal
-use Rattle.capbits.proofs.reader.read_letters.Goals.{in-Some, in_default+else-needs_letter+in-Some-find_capital}
+use Rattle.cap_text.proofs.Reading.{HasRead, all_read, capital_step, fault_inside, letter_missing, letter_step, not_a_text, read_nothing, wrong_byte}
+use Rattle.cap_text.proofs.reader.read_letters.Goals as goal
+use Rattle.cap_text.proofs.reader.read_letters.Goals.{in-Some, in_default+else-needs_letter+in-Some-find_capital}
 
 pub loop-at-init : goal.loop-at-init
 loop-at-init c = subst (λ s. HasRead [] s false (P ∷ []) (A ∷ L ∷ X ∷ F ∷ [])) (sym c.empty-set.ensures) read_nothing

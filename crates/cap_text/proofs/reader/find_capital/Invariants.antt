@@ -2,7 +2,7 @@ use Rattle.std.proofs.Common.{take}
 use Rattle.std.specs.Prelude.{◌==◌, IsFalse}
 use Rattle.std.specs.List.{list_any}
 use Rattle.capbits.specs.Text.{capital_of}
-use Rattle.capbits.proofs.reader.find_capital.Given as goal
+use Rattle.cap_text.proofs.reader.find_capital.Given as goal
 
 -- none so far has the capital
 abbrev pub invariant-loop-place : goal.invariant-loop-place

@@ -1,8 +1,9 @@
 use Rattle.std.proofs.Common.{◌≡◌, ◌≤◌, length, get_or, Ok, arith, subst, ap, sym, ◌∙◌}
-use Rattle.capbits.specs.Text.{IsLongestBeginning, text_of}
+use Rattle.capbits.specs.Text.{text_of}
+use Rattle.cap_text.specs.Beginnings.{IsLongestBeginning}
 use Rattle.capbits.proofs.Following.{text_of-injective, text_some}
-use Rattle.capbits.proofs.Reading.{empty_text, fault_inside, more_behind_dash, no_bytes, one_byte, text_of-empty}
-use Rattle.capbits.proofs.reader.read_caps.Goals as goal
+use Rattle.cap_text.proofs.Reading.{empty_text, fault_inside, more_behind_dash, no_bytes, one_byte, text_of-empty}
+use Rattle.cap_text.proofs.reader.read_caps.Goals as goal
 
 pub returns-in-empty-clause-err : goal.returns-in-empty-clause-err
 returns-in-empty-clause-err c = subst (λ text. IsLongestBeginning text 0) (sym (no_bytes c.args.text.now c.in-empty.len_below)) empty_text

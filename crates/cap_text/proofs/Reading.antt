@@ -11,7 +11,8 @@ use Rattle.capbits.specs.declared.cap.Part.{Part}
 use Rattle.capbits.specs.declared.cap.Part.TheVariants.{A, F, L, X}
 use Rattle.capbits.specs.Caps.{Caps, caps_where, has}
 use Rattle.capbits.specs.Sets.{caps_in, caps_of_part, covers, has-caps_in, has-none, has-union, no_caps, same_cap, same_cap-eq, union}
-use Rattle.capbits.specs.Text.{BeginsText, IsLongestBeginning, capital_of, group_of, groups_in, letter_of, letters_in, text_of}
+use Rattle.cap_text.specs.Beginnings.{BeginsText, IsLongestBeginning}
+use Rattle.capbits.specs.Text.{capital_of, group_of, groups_in, letter_of, letters_in, text_of}
 use Rattle.capbits.proofs.Spelling.{text_of-some}
 use Rattle.capbits.proofs.Following.{Apart, ApartParts, apart_behind, apart_caps, apart_parts, apart_parts_behind, behind_capital, behind_letter, behind_parts}
 use Rattle.capbits.proofs.Following.{clash, dash_alone, first_capital, groups_in-lacking, groups_in-split, in_parts, in_rest, in_rest-append, in_rest-cons}
