@@ -30,7 +30,7 @@ asker_is_base s g root nobody uid gid asker is =
     ∙ ap (caller_of uid) (is.gid_is ∙ ap (gid_for uid root) is.nobody_is)
     ∙ ap (λ (u : ℕ). caller_of u (gid_for u root s.nobody)) uid_is
 
-pub after_each : (s : Setting) (g : Grant) (root : Bool) (nobody uid gid : ℕ) (asker : Caller) (gids : List ℕ) (i : ℕ) → IsSettingFor s g → IsAsker s g root nobody uid gid asker → gids ≡ g.gids → (root ≡ false → (uid == 0) ≡ false) → (length gids == 0) ≡ false → length gids ≤ i → All (λ own. NoneFor s g (with_group asker own) own) (take i gids) → CoversGrant s.old root g
+pub after_each : (s : Setting) (g : Grant) (root : Bool) (nobody uid gid : ℕ) (asker : Caller) (gids : List ℕ) (i : ℕ) → IsSettingFor s g → IsAsker s g root nobody uid gid asker → gids ≡ g.gids → (root ≡ false → (uid == 0) ≡ false) → (length gids == 0) ≡ false → length gids ≤ i → All (λ own. NoneFor s g (with_group asker own) own) (take i gids) → CoversGrant s.accesses s.old root g
 unfolding base
 after_each s g root nobody uid gid asker gids i fits is gids_are plain some end all =
     covers_grant s g root fits
@@ -39,7 +39,7 @@ after_each s g root nobody uid gid asker gids i fits is gids_are plain some end 
     (subst (λ (c : Caller). All (λ own. NoneFor s g (with_group c own) own) g.gids) (asker_is_base s g root nobody uid gid asker is)
     (subst (λ (xs : List ℕ). All (λ own. NoneFor s g (with_group asker own) own) xs) gids_are (all_of (λ own. NoneFor s g (with_group asker own) own) gids i end all)))
 
-pub after_one : (s : Setting) (g : Grant) (root : Bool) (nobody uid gid : ℕ) (asker : Caller) (gids : List ℕ) (found : Option Found) → IsSettingFor s g → IsAsker s g root nobody uid gid asker → gids ≡ g.gids → (root ≡ false → (uid == 0) ≡ false) → (length gids == 0) ≡ true → IfNone found (NoneFor s g asker nobody) → IfNone found (CoversGrant s.old root g)
+pub after_one : (s : Setting) (g : Grant) (root : Bool) (nobody uid gid : ℕ) (asker : Caller) (gids : List ℕ) (found : Option Found) → IsSettingFor s g → IsAsker s g root nobody uid gid asker → gids ≡ g.gids → (root ≡ false → (uid == 0) ≡ false) → (length gids == 0) ≡ true → IfNone found (NoneFor s g asker nobody) → IfNone found (CoversGrant s.accesses s.old root g)
 unfolding base
 after_one s g root nobody uid gid asker gids (Some found) fits is gids_are plain none nothing = nothing
 after_one s g root nobody uid gid asker gids None fits is gids_are plain none nothing =
@@ -51,5 +51,5 @@ after_one s g root nobody uid gid asker gids None fits is gids_are plain none no
     empty_list : (xs : List ℕ) → (length xs == 0) ≡ true → (k : ℕ) → k < length xs → ⊥
     empty_list xs empty k less = let none : length xs ≡ 0 = eqb-true (length xs) 0 empty in absurd (omega arith)
 
-pub root_alone : (s : Setting) (g : Grant) (root : Bool) (nobody uid : ℕ) → IsSettingFor s g → nobody ≡ s.nobody → uid ≡ uid_for g root nobody → root ≡ false → uid ≡ 0 → CoversGrant s.old root g
+pub root_alone : (s : Setting) (g : Grant) (root : Bool) (nobody uid : ℕ) → IsSettingFor s g → nobody ≡ s.nobody → uid ≡ uid_for g root nobody → root ≡ false → uid ≡ 0 → CoversGrant s.accesses s.old root g
 root_alone s g root nobody uid fits same is plain zero = covers_no_root s g root fits plain (sym (uid_of_setting s g root nobody uid same is) ∙ zero)

@@ -17,7 +17,9 @@ use Rattle.capgrant.specs.Question.{Question, class_of, contains, is_owner, list
 use Rattle.capgrant.specs.Failing.{fails_mode_bits, fails_not_own_group, fails_not_owner, fails_uid, is_some_and}
 use Rattle.capgrant.specs.Verdict.{granted}
 use Rattle.policy_analysis.specs.Asking.{GainsNone, GainsNoneOfAll, IsSettingFor, NoneAsGroup, NoneAsNonOwner, NoneAsOther, NoneAsOwner, Setting, another}
-use Rattle.policy_analysis.specs.Asking.{asked, attr_of, by_mode, is_gained, with_group}
+use Rattle.policy_analysis.specs.declared.asking.Accesses.{Accesses}
+use Rattle.policy_analysis.specs.declared.asking.Accesses.TheVariants.{All as each_access, OfMds}
+use Rattle.policy_analysis.specs.Asking.{asked, attr_of, by_mode, is_gained, is_wanted, with_group}
 use Rattle.policy_analysis.proofs.Passing.{Passes, PassesAttr}
 use Rattle.policy_analysis.proofs.Narrowing.{IsAlike, StandsFor, covered}
 use Rattle.policy_analysis.proofs.Attr.{bit_for, class_group, class_has, class_other, class_owner, else_changes, gids_with, group_has, group_lacks, has_mode}
@@ -44,6 +46,17 @@ kin_alike Snapshot uid own = record { read = refl; vxattr = refl; snapshot = ref
 kin_alike Chmod uid own = record { read = refl; vxattr = refl; snapshot = refl }
 kin_alike (Chown n) uid own = record { read = refl; vxattr = refl; snapshot = refl }
 kin_alike (Chgrp n) uid own = record { read = refl; vxattr = refl; snapshot = refl }
+
+-- it is wanted as the access is
+kin_wanted : (accesses : Accesses) (a : Access) (uid own : ℕ) → is_wanted accesses a ≡ true → is_wanted accesses (kin a uid own) ≡ true
+kin_wanted each_access a uid own wanted = refl
+kin_wanted OfMds Read uid own wanted = refl
+kin_wanted OfMds Write uid own wanted = refl
+kin_wanted OfMds SetVxattr uid own wanted = absurd (false≢true wanted)
+kin_wanted OfMds Snapshot uid own wanted = refl
+kin_wanted OfMds Chmod uid own wanted = absurd (false≢true wanted)
+kin_wanted OfMds (Chown n) uid own wanted = absurd (false≢true wanted)
+kin_wanted OfMds (Chgrp n) uid own wanted = refl
 
 alike_itself : (a : Access) → IsAlike a a
 alike_itself a = record { read = refl; vxattr = refl; snapshot = refl }
@@ -89,11 +102,11 @@ owner_needed q h some changes passes = by_case (and_cases (is_some h.uid && chan
         let parts = or_parts (not (is_owner q)) (is_some_and (λ uid. not (uid == q.caller.uid)) (new_owner q.access)) both in
         (not-false (is_owner q) parts.0, parts.1)
 
-owner_passes : (q : Question) (h : Grant) → is_owner q ≡ true → is_some_and (λ uid. not (uid == q.caller.uid)) (new_owner q.access) ≡ false → fails_not_owner q h ≡ false
+pub owner_passes : (q : Question) (h : Grant) → is_owner q ≡ true → is_some_and (λ uid. not (uid == q.caller.uid)) (new_owner q.access) ≡ false → fails_not_owner q h ≡ false
 unfolding fails_not_owner
 owner_passes q h is new = and_right (is_some h.uid && changes_attr q.access) (not (is_owner q) || is_some_and (λ uid. not (uid == q.caller.uid)) (new_owner q.access)) (or_from (not (is_owner q)) (is_some_and (λ uid. not (uid == q.caller.uid)) (new_owner q.access)) (not_from_true (is_owner q) is) new)
 
-no_group_passes : (q : Question) (h : Grant) → new_group q.access ≡ None → fails_not_own_group q h ≡ false
+pub no_group_passes : (q : Question) (h : Grant) → new_group q.access ≡ None → fails_not_own_group q h ≡ false
 unfolding fails_not_own_group
 no_group_passes q h none = and_right (is_some h.uid) (is_some_and (λ gid. not (contains (listed_gids q.caller h) gid)) (new_group q.access)) (ap (is_some_and (λ gid. not (contains (listed_gids q.caller h) gid))) none)
 
@@ -109,7 +122,7 @@ group_passed q h n is passes = by_case (and_cases (is_some h.uid) (is_some_and (
     by_case (inl none) = inl none
     by_case (inr some) = inr (not-false (contains (listed_gids q.caller h) n) (ap (is_some_and (λ gid. not (contains (listed_gids q.caller h) gid))) (sym is) ∙ some))
 
-mode_not_needed : (q : Question) (h : Grant) → is_by_mode q.access ≡ false → fails_mode_bits q h ≡ false
+pub mode_not_needed : (q : Question) (h : Grant) → is_by_mode q.access ≡ false → fails_mode_bits q h ≡ false
 unfolding fails_mode_bits
 mode_not_needed q h by = and_right (is_some h.uid) (is_some_and (λ bit. not (has_bit q.attr.mode bit)) (needed_bit q.access (class_of q h))) (ap (is_some_and (λ bit. not (has_bit q.attr.mode bit))) (none q.access (class_of q h) by))
   where
@@ -125,7 +138,7 @@ mode_not_needed q h by = and_right (is_some h.uid) (is_some_and (λ bit. not (ha
 -- ---- a grant without a uid
 
 -- a question with no mode bit about the inode of another is allowed by no grant with a uid
-non_owner_refused : (q : Question) (h : Grant) → is_owner q ≡ false → q.attr.mode ≡ 0 → PassesAttr q h → h.uid ≡ None
+pub non_owner_refused : (q : Question) (h : Grant) → is_owner q ≡ false → q.attr.mode ≡ 0 → PassesAttr q h → h.uid ≡ None
 non_owner_refused q h other none passes = none_of_is_some h.uid (false_from_ne_true (is_some h.uid) (λ some. by_case some (is_by_mode q.access) refl))
   where
     lacks : is_some h.uid ≡ true → (is_some h.uid ≡ false) ⊎ (has_bit q.attr.mode (bit_for (is_read q.access) (class_of q h)) ≡ true) → ⊥
@@ -136,10 +149,10 @@ non_owner_refused q h other none passes = none_of_is_some h.uid (false_from_ne_t
     by_case some true by = lacks some (class_has q h by passes.mode_bits)
     by_case some false by = both_ways (is_owner q) other (owner_needed q h some (else_changes q.access by) passes.not_owner).0
 
-pub as_non_owner : (s : Setting) (g : Grant) (q : Question) (c : Caller) (own : ℕ) → IsSettingFor s g → Passes q g → StandsFor s g q c → g.uid ≡ None → NoneAsNonOwner s c own → granted q s.old ≡ true
+pub as_non_owner : (s : Setting) (g : Grant) (q : Question) (c : Caller) (own : ℕ) → is_wanted s.accesses q.access ≡ true → IsSettingFor s g → Passes q g → StandsFor s g q c → g.uid ≡ None → NoneAsNonOwner s c own → granted q s.old ≡ true
 unfolding NoneAsNonOwner
-as_non_owner s g q c own fits passes like none nothing =
-    covered s g q c (attr_of (another c.uid) s.nobody 0) (kin q.access c.uid own) fits passes like (kin_alike q.access c.uid own)
+as_non_owner s g q c own wanted fits passes like none nothing =
+    covered s g q c (attr_of (another c.uid) s.nobody 0) (kin q.access c.uid own) fits passes like (kin_alike q.access c.uid own) (kin_wanted s.accesses q.access c.uid own wanted)
     (no_uid_passes (asked s c (attr_of (another c.uid) s.nobody 0) (kin q.access c.uid own)) g none)
     (no_uid (asked s c (attr_of (another c.uid) s.nobody 0) (kin q.access c.uid own)) g none)
     (λ k d less. each (get_or s.old k d))
@@ -155,7 +168,7 @@ as_non_owner s g q c own fits passes like none nothing =
 pub some_uid : (g : Grant) (u : ℕ) → g.uid ≡ Some u → is_some g.uid ≡ true
 some_uid g u is = ap is_some is
 
-module _ (s : Setting) (g : Grant) (q : Question) (c : Caller) (u : ℕ) (fits : IsSettingFor s g) (passes : Passes q g) (some : g.uid ≡ Some u) (like : StandsFor s g q c) (same : c.uid ≡ q.caller.uid) where
+module _ (s : Setting) (g : Grant) (q : Question) (c : Caller) (u : ℕ) (wanted : is_wanted s.accesses q.access ≡ true) (fits : IsSettingFor s g) (passes : Passes q g) (some : g.uid ≡ Some u) (like : StandsFor s g q c) (same : c.uid ≡ q.caller.uid) where
   own_uid : (attr : Attr) (a : Access) → fails_uid (asked s c attr a) g ≡ false
   own_uid attr a = uid_passes (asked s c attr a) g u some (uid_of q g u some passes.base.uid ∙ sym same)
 
@@ -214,7 +227,7 @@ module _ (s : Setting) (g : Grant) (q : Question) (c : Caller) (u : ℕ) (fits :
   pub as_owner : (own : ℕ) → is_owner q ≡ true → ((n : ℕ) → new_group q.access ≡ Some n → (own ≡ n) × (contains (gids_of c) n ≡ true)) → NoneAsOwner s c own → granted q s.old ≡ true
   unfolding NoneAsOwner
   as_owner own is group nothing =
-      covered s g q c (attr_of c.uid s.nobody 0o600) (kin q.access c.uid own) fits passes like (kin_alike q.access c.uid own)
+      covered s g q c (attr_of c.uid s.nobody 0o600) (kin q.access c.uid own) fits passes like (kin_alike q.access c.uid own) (kin_wanted s.accesses q.access c.uid own wanted)
       (own_uid (attr_of c.uid s.nobody 0o600) (kin q.access c.uid own))
       (owner_attr q.access own (λ n given. ((group n given).0, (group n given).1, (listed_parts q.caller g n (given_group n given)).0)))
       (λ k d less attr. (same_uid (asked s c (attr_of c.uid s.nobody 0o600) (kin q.access c.uid own)) q (get_or s.old k d) same, owner_stays own is (λ n given. (group n given).0) (get_or s.old k d) attr))
@@ -224,7 +237,7 @@ module _ (s : Setting) (g : Grant) (q : Question) (c : Caller) (u : ℕ) (fits :
   pub as_group : is_by_mode q.access ≡ true → is_owner q ≡ false → contains (listed_gids q.caller g) q.attr.gid ≡ true → contains (gids_of c) q.attr.gid ≡ true → NoneAsGroup s c q.attr.gid → granted q s.old ≡ true
   unfolding NoneAsGroup
   as_group by other listed of nothing =
-      covered s g q c (attr_of (another c.uid) q.attr.gid 0o060) q.access fits passes like (alike_itself q.access)
+      covered s g q c (attr_of (another c.uid) q.attr.gid 0o060) q.access fits passes like (alike_itself q.access) wanted
       (own_uid (attr_of (another c.uid) q.attr.gid 0o060) q.access)
       (passes_by_mode asks g Group by (class_group asks g (is_another c.uid) (listed_from c g q.attr.gid (listed_parts q.caller g q.attr.gid listed).0 of)) (group_has (is_read q.access)))
       (λ k d less attr. (same_uid asks q (get_or s.old k d) same, kept (get_or s.old k d) (class_has asks (get_or s.old k d) by attr.mode_bits)))
@@ -247,10 +260,10 @@ module _ (s : Setting) (g : Grant) (q : Question) (c : Caller) (u : ℕ) (fits :
       kept h (inr bit) = by_class h bit (contains (listed_gids c h) q.attr.gid) refl
 
 -- neither: an old grant that lists the inode's group finds the caller in its class, whose bit is missing
-pub as_other : (s : Setting) (g : Grant) (q : Question) (c : Caller) (u m : ℕ) → IsSettingFor s g → Passes q g → g.uid ≡ Some u → StandsFor s g q (with_group c m) → c.uid ≡ q.caller.uid → is_by_mode q.access ≡ true → is_owner q ≡ false → contains (listed_gids q.caller g) q.attr.gid ≡ false → contains g.gids m ≡ false → All (λ h. contains (listed_gids q.caller h) q.attr.gid ≡ true → m ≡ q.attr.gid) s.old → NoneAsOther s c m → granted q s.old ≡ true
+pub as_other : (s : Setting) (g : Grant) (q : Question) (c : Caller) (u m : ℕ) → is_wanted s.accesses q.access ≡ true → IsSettingFor s g → Passes q g → g.uid ≡ Some u → StandsFor s g q (with_group c m) → c.uid ≡ q.caller.uid → is_by_mode q.access ≡ true → is_owner q ≡ false → contains (listed_gids q.caller g) q.attr.gid ≡ false → contains g.gids m ≡ false → All (λ h. contains (listed_gids q.caller h) q.attr.gid ≡ true → m ≡ q.attr.gid) s.old → NoneAsOther s c m → granted q s.old ≡ true
 unfolding NoneAsOther
-as_other s g q c u m fits passes some like same by other unlisted out each nothing =
-    covered s g q (with_group c m) (attr_of (another c.uid) m 0o006) q.access fits passes like (alike_itself q.access)
+as_other s g q c u m wanted fits passes some like same by other unlisted out each nothing =
+    covered s g q (with_group c m) (attr_of (another c.uid) m 0o006) q.access fits passes like (alike_itself q.access) wanted
     (uid_passes asks g u some (uid_of q g u some passes.base.uid ∙ sym same))
     (passes_by_mode asks g Other by (class_other asks g (is_another c.uid) (not_listed (with_group c m) g m out)) (other_has (is_read q.access)))
     (λ k d less attr. (same_uid asks q (get_or s.old k d) same, kept (get_or s.old k d) (each k d less) (class_has asks (get_or s.old k d) by attr.mode_bits)))

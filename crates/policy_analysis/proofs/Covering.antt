@@ -13,7 +13,7 @@ use Rattle.capgrant.specs.Failing.{fails_uid}
 use Rattle.capgrant.specs.Verdict.{granted}
 use Rattle.policy_analysis.specs.Comparing.{is_root}
 use Rattle.policy_analysis.specs.Asking.{CoversGrant, IsSettingFor, NoneAsNonOwner, NoneAsOther, NoneAsOthers, NoneAsOthersOf, NoneBy, NoneFor, Setting}
-use Rattle.policy_analysis.specs.Asking.{caller_of, gid_for, uid_for, with_group}
+use Rattle.policy_analysis.specs.Asking.{caller_of, gid_for, is_wanted, uid_for, with_group}
 use Rattle.policy_analysis.proofs.Lists.{found, holds_of, none_passes}
 use Rattle.policy_analysis.proofs.Passing.{Passes, passes_all}
 use Rattle.policy_analysis.proofs.Rules.{gids_passed, is_listed, listed_gid}
@@ -93,7 +93,7 @@ in_with : (c : Caller) (m : ℕ) → contains (gids_of (with_group c m)) m ≡ t
 in_with c m = gids_with c m m ∙ or_right (contains (gids_of c) m) (m == m) (eq-eqb m m refl)
 
 module _ (s : Setting) (g : Grant) (root : Bool) (base : Caller) (fits : IsSettingFor s g) (none : (length g.gids == 0) ≡ true → NoneFor s g base s.nobody) (each : All (λ own. NoneFor s g (with_group base own) own) g.gids) where
-  module _ (q : Question) (passes : Passes q g) (base_root : is_root base ≡ is_root q.caller) (base_gids : (n : ℕ) → contains (gids_of base) n ≡ true → (contains (gids_of q.caller) n ≡ true) ⊎ (n ≡ s.nobody)) where
+  module _ (q : Question) (wanted : is_wanted s.accesses q.access ≡ true) (passes : Passes q g) (base_root : is_root base ≡ is_root q.caller) (base_gids : (n : ℕ) → contains (gids_of base) n ≡ true → (contains (gids_of q.caller) n ≡ true) ⊎ (n ≡ s.nobody)) where
     -- one of the question's gids that the grant lists
     stands_with : (own : ℕ) → contains g.gids own ≡ true → contains (gids_of q.caller) own ≡ true → StandsFor s g q (with_group base own)
     stands_with own listed of = record {
@@ -120,7 +120,7 @@ module _ (s : Setting) (g : Grant) (root : Bool) (base : Caller) (fits : IsSetti
     -- a grant without a uid
     without_uid : g.uid ≡ None → granted q s.old ≡ true
     unfolding NoneFor
-    without_uid unnamed = as_non_owner s g q a_choice.0 a_choice.1 fits passes a_choice.2 unnamed (MatchOption-at_none (NoneAsNonOwner s a_choice.0 a_choice.1) (λ uid. NoneBy s a_choice.0 a_choice.1) unnamed a_choice.3)
+    without_uid unnamed = as_non_owner s g q a_choice.0 a_choice.1 wanted fits passes a_choice.2 unnamed (MatchOption-at_none (NoneAsNonOwner s a_choice.0 a_choice.1) (λ uid. NoneBy s a_choice.0 a_choice.1) unnamed a_choice.3)
 
     module _ (u : ℕ) (some : g.uid ≡ Some u) (same : base.uid ≡ q.caller.uid) where
       nothing_by : (c : Caller) (own : ℕ) → NoneFor s g c own → NoneBy s c own
@@ -132,14 +132,14 @@ module _ (s : Setting) (g : Grant) (root : Bool) (base : Caller) (fits : IsSetti
       by_owner is = by_group (new_group q.access) refl
         where
           by_group : (o : Option ℕ) → new_group q.access ≡ o → granted q s.old ≡ true
-          by_group None no_group = as_owner s g q a_choice.0 u fits passes some a_choice.2 (a_choice.4 ∙ same) a_choice.1 is (λ n given. absurd (no_some n (sym no_group ∙ given))) (nothing_by a_choice.0 a_choice.1 a_choice.3).owner
+          by_group None no_group = as_owner s g q a_choice.0 u wanted fits passes some a_choice.2 (a_choice.4 ∙ same) a_choice.1 is (λ n given. absurd (no_some n (sym no_group ∙ given))) (nothing_by a_choice.0 a_choice.1 a_choice.3).owner
             where
               no_some : (n : ℕ) → None ≡ Some n → ⊥
               no_some n e = cc
           by_group (Some n) given =
-              let listed = given_group s g q a_choice.0 u fits passes some a_choice.2 (a_choice.4 ∙ same) n given in
+              let listed = given_group s g q a_choice.0 u wanted fits passes some a_choice.2 (a_choice.4 ∙ same) n given in
               let parts = listed_parts q.caller g n listed in
-              as_owner s g q (with_group base n) u fits passes some (stands_with n parts.0 parts.1) same n is (λ m also. (same_group m (sym given ∙ also), ap (contains (gids_of (with_group base n))) (sym (same_group m (sym given ∙ also))) ∙ in_with base n)) (nothing_by (with_group base n) n (nothing_with n parts.0)).owner
+              as_owner s g q (with_group base n) u wanted fits passes some (stands_with n parts.0 parts.1) same n is (λ m also. (same_group m (sym given ∙ also), ap (contains (gids_of (with_group base n))) (sym (same_group m (sym given ∙ also))) ∙ in_with base n)) (nothing_by (with_group base n) n (nothing_with n parts.0)).owner
             where
               same_group : (m : ℕ) → Some n ≡ Some m → n ≡ m
               same_group m e = cc
@@ -162,9 +162,9 @@ module _ (s : Setting) (g : Grant) (root : Bool) (base : Caller) (fits : IsSetti
           by_old true is =
               let parts = and_parts (list_any (λ h. contains h.gids q.attr.gid) s.old) (contains (gids_of q.caller) q.attr.gid) is in
               let one = found (λ h. NoneAsOthersOf s a_choice.0 h.gids) (λ h. contains h.gids q.attr.gid) s.old others.listed parts.0 in
-              as_other s g q a_choice.0 u q.attr.gid fits passes some (more_stands s g q a_choice.0 q.attr.gid a_choice.2 (inl parts.1)) (a_choice.4 ∙ same) by other unlisted (own_out parts.1) (λ k d less in'. refl) (holds_of (NoneAsOther s a_choice.0) one.0.gids q.attr.gid one.1 one.2)
+              as_other s g q a_choice.0 u q.attr.gid wanted fits passes some (more_stands s g q a_choice.0 q.attr.gid a_choice.2 (inl parts.1)) (a_choice.4 ∙ same) by other unlisted (own_out parts.1) (λ k d less in'. refl) (holds_of (NoneAsOther s a_choice.0) one.0.gids q.attr.gid one.1 one.2)
           by_old false is =
-              as_other s g q a_choice.0 u s.nobody fits passes some (more_stands s g q a_choice.0 s.nobody a_choice.2 (inr refl)) (a_choice.4 ∙ same) by other unlisted fits.own (λ k d less in'. absurd (nowhere (and_cases (list_any (λ h. contains h.gids q.attr.gid) s.old) (contains (gids_of q.caller) q.attr.gid) is) k d less (listed_parts q.caller (get_or s.old k d) q.attr.gid in'))) others.nobody
+              as_other s g q a_choice.0 u s.nobody wanted fits passes some (more_stands s g q a_choice.0 s.nobody a_choice.2 (inr refl)) (a_choice.4 ∙ same) by other unlisted fits.own (λ k d less in'. absurd (nowhere (and_cases (list_any (λ h. contains h.gids q.attr.gid) s.old) (contains (gids_of q.caller) q.attr.gid) is) k d less (listed_parts q.caller (get_or s.old k d) q.attr.gid in'))) others.nobody
             where
               nowhere : (list_any (λ h. contains h.gids q.attr.gid) s.old ≡ false) ⊎ (contains (gids_of q.caller) q.attr.gid ≡ false) → (k : ℕ) (d : Grant) → k < length s.old → (contains (get_or s.old k d).gids q.attr.gid ≡ true) × (contains (gids_of q.caller) q.attr.gid ≡ true) → ⊥
               nowhere (inl no_old) k d less parts = both_ways (contains (get_or s.old k d).gids q.attr.gid) (none_passes (λ h. contains h.gids q.attr.gid) s.old no_old k d less) parts.0
@@ -177,7 +177,7 @@ module _ (s : Setting) (g : Grant) (root : Bool) (base : Caller) (fits : IsSetti
           by_class : is_by_mode q.access ≡ true → is_owner q ≡ false → (b : Bool) → contains (listed_gids q.caller g) q.attr.gid ≡ b → granted q s.old ≡ true
           by_class by other true listed =
               let parts = listed_parts q.caller g q.attr.gid listed in
-              as_group s g q (with_group base q.attr.gid) u fits passes some (stands_with q.attr.gid parts.0 parts.1) same by other listed (in_with base q.attr.gid) (nothing_by (with_group base q.attr.gid) q.attr.gid (nothing_with q.attr.gid parts.0)).group
+              as_group s g q (with_group base q.attr.gid) u wanted fits passes some (stands_with q.attr.gid parts.0 parts.1) same by other listed (in_with base q.attr.gid) (nothing_by (with_group base q.attr.gid) q.attr.gid (nothing_with q.attr.gid parts.0)).group
           by_class by other false unlisted = by_other by other unlisted
 
           by_owning : is_by_mode q.access ≡ true → (b : Bool) → is_owner q ≡ b → granted q s.old ≡ true
@@ -189,8 +189,8 @@ module _ (s : Setting) (g : Grant) (root : Bool) (base : Caller) (fits : IsSetti
           by_mode false not_by = by_owner (owner_needed q g (some_uid g u some) (else_changes q.access not_by) passes.attr.not_owner).0
 
 -- Where nothing is gained by the one who asks, in any group that the grant lists, the grant is covered.
-pub covers_grant : (s : Setting) (g : Grant) (root : Bool) → IsSettingFor s g → (root ≡ false → (uid_for g root s.nobody == 0) ≡ false) → ((length g.gids == 0) ≡ true → NoneFor s g (caller_of (uid_for g root s.nobody) (gid_for (uid_for g root s.nobody) root s.nobody)) s.nobody) → All (λ own. NoneFor s g (with_group (caller_of (uid_for g root s.nobody) (gid_for (uid_for g root s.nobody) root s.nobody)) own) own) g.gids → CoversGrant s.old root g
-covers_grant s g root fits plain none each q allowing rooted = by_uid g.uid refl
+pub covers_grant : (s : Setting) (g : Grant) (root : Bool) → IsSettingFor s g → (root ≡ false → (uid_for g root s.nobody == 0) ≡ false) → ((length g.gids == 0) ≡ true → NoneFor s g (caller_of (uid_for g root s.nobody) (gid_for (uid_for g root s.nobody) root s.nobody)) s.nobody) → All (λ own. NoneFor s g (with_group (caller_of (uid_for g root s.nobody) (gid_for (uid_for g root s.nobody) root s.nobody)) own) own) g.gids → CoversGrant s.accesses s.old root g
+covers_grant s g root fits plain none each q wanted allowing rooted = by_uid g.uid refl
   where
     base : Caller
     base = caller_of (uid_for g root s.nobody) (gid_for (uid_for g root s.nobody) root s.nobody)
@@ -205,12 +205,12 @@ covers_grant s g root fits plain none each q allowing rooted = by_uid g.uid refl
     base_gids = asker_gids q (uid_for g root s.nobody) s.nobody root rooted (uid_named g q root s.nobody passes.base.uid)
 
     by_uid : (o : Option ℕ) → g.uid ≡ o → granted q s.old ≡ true
-    by_uid None unnamed = without_uid s g root base fits none each q passes base_root base_gids unnamed
-    by_uid (Some u) some = with_uid s g root base fits none each q passes base_root base_gids u some (ap (λ (uid : Option ℕ). unwrap_or uid (if root then 0 else s.nobody)) some ∙ uid_of q g u some passes.base.uid)
+    by_uid None unnamed = without_uid s g root base fits none each q wanted passes base_root base_gids unnamed
+    by_uid (Some u) some = with_uid s g root base fits none each q wanted passes base_root base_gids u some (ap (λ (uid : Option ℕ). unwrap_or uid (if root then 0 else s.nobody)) some ∙ uid_of q g u some passes.base.uid)
 
 -- A grant to root alone allows nothing to others.
-pub covers_no_root : (s : Setting) (g : Grant) (root : Bool) → IsSettingFor s g → root ≡ false → uid_for g root s.nobody ≡ 0 → CoversGrant s.old root g
-covers_no_root s g root fits plain zero q allowing rooted = by_uid g.uid refl
+pub covers_no_root : (s : Setting) (g : Grant) (root : Bool) → IsSettingFor s g → root ≡ false → uid_for g root s.nobody ≡ 0 → CoversGrant s.accesses s.old root g
+covers_no_root s g root fits plain zero q wanted allowing rooted = by_uid g.uid refl
   where
     passes : Passes q g
     passes = passes_all q g allowing

@@ -32,4 +32,17 @@ pub mod Odd
 pub mod Alike
 pub mod Listed
 pub mod StandsFor
+pub mod StoodIn
 pub mod Picked
+pub mod Directories
+pub mod Together
+pub mod Owners
+pub mod Ranks
+pub mod Says
+pub mod SameCallers
+pub mod SaidMore
+pub mod Adding
+pub mod Ascending
+pub mod Changes
+pub mod OwnersAsked
+pub mod Mounting

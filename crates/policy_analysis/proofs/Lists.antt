@@ -54,3 +54,8 @@ passes_among p (m ∷ ns) some = by_case (or_cases (p m) (list_any p ns) some) (
     by_case : (p m ≡ true) ⊎ (list_any p ns ≡ true) → (list_any p ns ≡ true → (n : ℕ) × (contains ns n ≡ true) × (p n ≡ true)) → (n : ℕ) × (contains (m ∷ ns) n ≡ true) × (p n ≡ true)
     by_case (inl here) rest = (m, or_left (m == m) (contains ns m) (eq-eqb m m refl), here)
     by_case (inr later) rest = let one = rest later in (one.0, or_right (m == one.0) (contains ns one.0) one.1, one.2)
+
+-- two tests that say the same of each element say the same of a list
+pub same_any : {X : Type 0} (p r : X → Bool) → ((x : X) → p x ≡ r x) → (xs : List X) → list_any p xs ≡ list_any r xs
+same_any p r same [] = refl
+same_any p r same (x ∷ xs) = λ i. same x i || same_any p r same xs i

@@ -15,7 +15,7 @@ use Rattle.capgrant.specs.Question.{Question, contains, listed_gids}
 use Rattle.capgrant.specs.Failing.{fails_fsname, fails_gids, fails_path, fails_uid}
 use Rattle.capgrant.specs.Verdict.{allows, granted}
 use Rattle.policy_analysis.specs.Comparing.{is_root}
-use Rattle.policy_analysis.specs.Asking.{IsSettingFor, Setting, asked, is_gained}
+use Rattle.policy_analysis.specs.Asking.{IsSettingFor, Setting, asked, is_gained, is_wanted}
 use Rattle.policy_analysis.proofs.Lists.{passes_other}
 use Rattle.policy_analysis.proofs.Passing.{Passes, PassesAttr, PassesBase, allowed, passes_all}
 use Rattle.policy_analysis.proofs.Rules.{fs_for_each, fs_named, fs_stays, gids_pass, gids_stay, path_itself, path_stays, same_no_p, same_no_s, same_no_write}
@@ -91,8 +91,8 @@ module _ (s : Setting) (g : Grant) (q : Question) (c : Caller) (attr : Attr) (a 
   }
 
   -- Where the changed question is not gained, the old grants allow the question.
-  pub covered : fails_uid (asked s c attr a) g ≡ false → PassesAttr (asked s c attr a) g → All (λ h. PassesAttr (asked s c attr a) h → (fails_uid (asked s c attr a) h ≡ false → fails_uid q h ≡ false) × PassesAttr q h) s.old → is_gained s (asked s c attr a) ≡ false → granted q s.old ≡ true
-  covered uid own each none = by_old (granted (asked s c attr a) s.old) refl
+  pub covered : is_wanted s.accesses a ≡ true → fails_uid (asked s c attr a) g ≡ false → PassesAttr (asked s c attr a) g → All (λ h. PassesAttr (asked s c attr a) h → (fails_uid (asked s c attr a) h ≡ false → fails_uid q h ≡ false) × PassesAttr q h) s.old → is_gained s (asked s c attr a) ≡ false → granted q s.old ≡ true
+  covered wanted uid own each none = by_old (granted (asked s c attr a) s.old) refl
     where
       by_new : granted (asked s c attr a) s.new ≡ true
       by_new = list_any_at (allows (asked s c attr a)) s.new fits.among.0 g fits.among.1 (ap (allows (asked s c attr a)) fits.among.2 ∙ allowed (asked s c attr a) g (own_base uid) own)
@@ -106,5 +106,5 @@ module _ (s : Setting) (g : Grant) (q : Question) (c : Caller) (attr : Attr) (a 
       by_old : (b : Bool) → granted (asked s c attr a) s.old ≡ b → granted q s.old ≡ true
       by_old true is = passes_other (allows (asked s c attr a)) (allows q) s.old (λ k d less. kept (get_or s.old k d) (each_file_system k d less) (fits.old k d less) (each k d less)) is
       by_old false is =
-          let gained : is_gained s (asked s c attr a) ≡ true = rw (by_new, is) in
+          let gained : is_gained s (asked s c attr a) ≡ true = rw (wanted, by_new, is) in
           absurd (both_ways (is_gained s (asked s c attr a)) none gained)

@@ -27,7 +27,7 @@ use Rattle.policy_analysis.specs.Oddities.{commands_mds, for_all, has_gids_alone
 -- ---- for every user
 
 -- two grants that fail by the same rules fail by the same first
-same_first : (s : Switches) (q t : Question) (g h : Grant) → ((r : Rule) → fails r s q g ≡ fails r s t h) → first_failing s q g ≡ first_failing s t h
+pub same_first : (s : Switches) (q t : Question) (g h : Grant) → ((r : Rule) → fails r s q g ≡ fails r s t h) → first_failing s q g ≡ first_failing s t h
 unfolding first_failing
 same_first s q t g h same = in_rules all_rules
   where
@@ -107,7 +107,7 @@ one_is_found p (r ∷ rs) any = by_case (p r) refl (one_is_found p rs)
     by_case false is later = rw is (later (rw is at any))
 
 -- one rule is enough
-failing : (s : Switches) (q : Question) (g : Grant) (i : ℕ) → i < 13 → fails (get_or all_rules i rule.FsName) s q g ≡ true → may_allow s q g ≡ false
+pub failing : (s : Switches) (q : Question) (g : Grant) (i : ℕ) → i < 13 → fails (get_or all_rules i rule.FsName) s q g ≡ true → may_allow s q g ≡ false
 unfolding first_failing
 failing s q g i within is = one_is_found (λ r. fails r s q g) all_rules (list_any_at (λ r. fails r s q g) all_rules i rule.FsName within is)
 
@@ -122,6 +122,11 @@ in_none (Some text) address is = by_network_in (network_in text) is
 fails_by_network : (q : Question) (g : Grant) → has_no_network g ≡ true → fails_network q g ≡ true
 unfolding fails_network
 fails_by_network q g is = in_none g.network q.address is
+
+-- a client that is not in its network
+pub fails_in_network : (s : Switches) (q : Question) (g : Grant) → is_no (in_network g.network q.address) ≡ true → may_allow s q g ≡ false
+unfolding fails_network
+fails_in_network s q g is = failing s q g 12 (omega arith) is
 
 pub no_network : (s : Switches) (q : Question) (g : Grant) → has_no_network g ≡ true → may_allow s q g ≡ false
 no_network s q g is = failing s q g 12 (omega arith) (fails_by_network q g is)

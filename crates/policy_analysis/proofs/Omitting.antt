@@ -165,7 +165,7 @@ grant_goes numbers grants rest after i g among same few within is in' after_is =
 
 -- ---- what the comparison says
 
-some_granted : (q : Question) (grants : List Grant) (n : ℕ) → verdict_of q grants ≡ Allowed n → granted q grants ≡ true
+pub some_granted : (q : Question) (grants : List Grant) (n : ℕ) → verdict_of q grants ≡ Allowed n → granted q grants ≡ true
 unfolding verdict_of
 some_granted q grants n is = by_place (position (allows q) grants) refl
   where

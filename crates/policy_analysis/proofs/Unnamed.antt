@@ -13,7 +13,7 @@ use Rattle.capgrant.specs.Failing.{fails_fsname, fails_gids, fails_mode_bits, fa
 use Rattle.capgrant.specs.Failing.{fails_root_squash, fails_uid, is_some_and}
 use Rattle.capgrant.specs.Verdict.{allows}
 use Rattle.policy_analysis.specs.Asking.{another}
-use Rattle.policy_analysis.proofs.Passing.{Passes, PassesAttr, PassesBase, allowed, passes_all}
+use Rattle.policy_analysis.proofs.Passing.{PassesAttr, PassesBase, allowed, passes_all}
 use Rattle.policy_analysis.proofs.Attr.{bit_for, else_changes, is_another, is_by_mode, mode_says, no_uid}
 use Rattle.policy_analysis.specs.Left.{LooksAtNoInode, is_for_all}
 

@@ -1,5 +1,5 @@
 -- What was found is a witness, and what was not is covered.
-use Rattle.std.proofs.Common.{◌≡◌, ℕ, ◌+◌, ◌<◌, Bool, false, List, sym, ap, ◌∙◌}
+use Rattle.std.proofs.Common.{◌≡◌, ℕ, ◌+◌, ◌<◌, Bool, true, false, List, sym, ap, ◌∙◌}
 use Rattle.std.specs.Prelude.{All, Contains, MatchOption}
 use Rattle.std.proofs.lemmas.List.Elements.{All-contains}
 use Rattle.capspec.specs.declared.grant.Grant.{Grant}
@@ -11,14 +11,15 @@ use Rattle.policy_analysis.specs.declared.asking.Found.{Found}
 use Rattle.policy_analysis.specs.declared.witness.Witness.{Witness}
 use Rattle.policy_analysis.specs.Comparing.{IsWitness, question_of}
 use Rattle.policy_analysis.specs.Free.{NoneLists, NoneNames}
-use Rattle.policy_analysis.specs.Asking.{CoversGrant, IsFound, IsSettingFor, Setting, asked, setting}
+use Rattle.policy_analysis.specs.declared.asking.Accesses.{Accesses}
+use Rattle.policy_analysis.specs.Asking.{CoversGrant, IsFound, IsSettingFor, Setting, asked, is_wanted, setting}
 use Rattle.policy_analysis.specs.Searching.{CoversAs}
 use Rattle.policy_analysis.proofs.Lists.{found}
 
 -- ---- for one grant
 
-pub setting_fits : (old new : List Grant) (fs : List ℕ) (path : List (List ℕ)) (nobody : ℕ) (g : Grant) → Contains new g → path ≡ g.path → MatchOption g.fsname (NoneNames fs old) (λ name. fs ≡ name) → 0 < nobody → NoneLists nobody old → NoneLists nobody new → IsSettingFor (setting old new fs path nobody) g
-setting_fits old new fs path nobody g among path_is fs_is above in_old in_new = record {
+pub setting_fits : (accesses : Accesses) (old new : List Grant) (fs : List ℕ) (path : List (List ℕ)) (nobody : ℕ) (g : Grant) → Contains new g → path ≡ g.path → MatchOption g.fsname (NoneNames fs old) (λ name. fs ≡ name) → 0 < nobody → NoneLists nobody old → NoneLists nobody new → IsSettingFor (setting accesses old new fs path nobody) g
+setting_fits accesses old new fs path nobody g among path_is fs_is above in_old in_new = record {
   among = among;
   path = path_is;
   fs = fs_is;
@@ -39,9 +40,13 @@ is_witness s root f fs path w is fs_is path_is asks number =
       denied = ap (λ (q : Question). granted q s.old) same ∙ is.denied;
     }
 
+-- its access is one of those that are asked for
+pub wanted_witness : (s : Setting) (root : Bool) (f : Found) (fs : List ℕ) (path : List (List ℕ)) (w : Witness) → IsFound s root f → question_of w ≡ question fs f.caller path f.attr f.access → is_wanted s.accesses w.access ≡ true
+wanted_witness s root f fs path w is asks = ap (λ (q : Question). is_wanted s.accesses q.access) asks ∙ is.wanted
+
 -- ---- for all grants
 
-pub each_covers_all : (old new : List Grant) (root : Bool) → All (CoversGrant old root) new → CoversAs old new root
-each_covers_all old new root all q rooted some =
-    let one = found (CoversGrant old root) (allows q) new all some in
-    one.1 q one.2 rooted
+pub each_covers_all : (accesses : Accesses) (old new : List Grant) (root : Bool) → All (CoversGrant accesses old root) new → CoversAs accesses old new root
+each_covers_all accesses old new root all q wanted rooted some =
+    let one = found (CoversGrant accesses old root) (allows q) new all some in
+    one.1 q wanted one.2 rooted

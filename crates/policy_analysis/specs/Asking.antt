@@ -8,31 +8,44 @@ use Rattle.capgrant.specs.declared.access.Access.TheVariants.{Chgrp, Chmod, Chow
 use Rattle.capgrant.specs.declared.access.Attr.{Attr}
 use Rattle.capgrant.specs.Question.{Question, contains, question}
 use Rattle.capgrant.specs.Verdict.{allows, granted}
+use Rattle.policy_analysis.specs.declared.asking.Accesses.{Accesses}
+use Rattle.policy_analysis.specs.declared.asking.Accesses.TheVariants.{All as each, OfMds}
 use Rattle.policy_analysis.specs.declared.asking.Found.{Found}
 use Rattle.policy_analysis.specs.Comparing.{is_root}
 use Rattle.policy_analysis.specs.Free.{NoneLists, NoneNames}
 
--- what the questions have in common: the grants that are compared, the file system, the path, and a gid that nobody lists
+-- which accesses are asked for: each, by the rules of this server; or of grants that stand for those of an MDS all but attributes, which it judges
+-- otherwise, and changes of the mode and of the owner, which go with writing there
+abbrev pub is_wanted : Accesses → Access → Bool
+is_wanted each access = true
+is_wanted OfMds SetVxattr = false
+is_wanted OfMds Chmod = false
+is_wanted OfMds (Chown uid) = false
+is_wanted OfMds access = true
+
+-- what the questions have in common: the accesses, the grants that are compared, the file system, the path, and a gid that nobody lists
 pub record Setting : Type 0 where
+  pub accesses : Accesses
   pub old : List Grant
   pub new : List Grant
   pub fs : List ℕ
   pub path : List (List ℕ)
   pub nobody : ℕ
 
-abbrev pub setting : List Grant → List Grant → List ℕ → List (List ℕ) → ℕ → Setting
-setting old new fs path nobody = record { old = old; new = new; fs = fs; path = path; nobody = nobody }
+abbrev pub setting : Accesses → List Grant → List Grant → List ℕ → List (List ℕ) → ℕ → Setting
+setting accesses old new fs path nobody = record { accesses = accesses; old = old; new = new; fs = fs; path = path; nobody = nobody }
 
 abbrev pub asked : Setting → Caller → Attr → Access → Question
 asked s caller attr access = question s.fs caller s.path attr access
 
--- the new grants allow it, and the old ones deny it
+-- the access is wanted, the new grants allow it, and the old ones deny it
 abbrev pub is_gained : Setting → Question → Bool
-is_gained s q = granted q s.new && not (granted q s.old)
+is_gained s q = is_wanted s.accesses q.access && (granted q s.new && not (granted q s.old))
 
 -- what was found is a question, of root or not, that the new grants allow and the old ones deny
 pub record IsFound (s : Setting) (root : Bool) (found : Found) : Type 0 where
   pub asker : is_root found.caller ≡ root
+  pub wanted : is_wanted s.accesses found.access ≡ true
   pub within : found.place < length s.new
   pub allowed : position (allows (asked s found.caller found.attr found.access)) s.new ≡ Some found.place
   pub denied : granted (asked s found.caller found.attr found.access) s.old ≡ false
@@ -107,9 +120,9 @@ pub record NoneBy (s : Setting) (caller : Caller) (own : ℕ) : Type 0 where
   pub group : NoneAsGroup s caller own
   pub other : NoneAsOthers s caller
 
--- The old grants allow each question of root, or of others than root, that the grant allows.
-abbrev pub CoversGrant : List Grant → Bool → Grant → Type 0
-CoversGrant old root g = (q : Question) → allows q g ≡ true → is_root q.caller ≡ root → granted q old ≡ true
+-- The old grants allow each question of root, or of others than root, for one of the accesses that the grant allows.
+abbrev pub CoversGrant : Accesses → List Grant → Bool → Grant → Type 0
+CoversGrant accesses old root g = (q : Question) → is_wanted accesses q.access ≡ true → allows q g ≡ true → is_root q.caller ≡ root → granted q old ≡ true
 
 -- the setting for this grant, one of the new: its path, and its file system or one that no old grant names
 pub record IsSettingFor (s : Setting) (g : Grant) : Type 0 where

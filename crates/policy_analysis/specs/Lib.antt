@@ -17,3 +17,6 @@ pub mod Releases
 pub mod Oddities
 pub mod Refusals
 pub mod StandsFor
+pub mod Vxattrs
+pub mod ComparingBy
+pub mod StandIns

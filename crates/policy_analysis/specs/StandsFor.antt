@@ -1,6 +1,6 @@
 -- Where the MDS of a release judges by a grant as this server does by another one. So what is asked of the grants of this server, and of many
 -- questions at once, can be asked of theirs.
-use Rattle.std.specs.Prelude.{◌≡◌, ℕ, Bool, not, nat_lt, true, None, List, [], All, IsTrue, bytes_eq, if◌then◌else◌}
+use Rattle.std.specs.Prelude.{◌≡◌, ℕ, Bool, not, nat_lt, ◌&&◌, true, None, List, [], All, IsTrue, bytes_eq, if◌then◌else◌}
 use Rattle.std.specs.List.{AllZip, list_any, starts_with}
 use Rattle.capbits.specs.declared.caller.Caller.{Caller}
 use Rattle.capspec.specs.declared.grant.Grant.{Grant as OwnGrant}
@@ -16,7 +16,7 @@ use Rattle.release_rules.specs.declared.grant.Grant.{Grant}
 use Rattle.release_rules.specs.declared.release.Switches.{Switches}
 use Rattle.release_rules.specs.Asked.{asked_for}
 use Rattle.release_rules.specs.Failing.{has_user, user_of}
-use Rattle.release_rules.specs.Flags.{has_s as has_s_there, has_w as has_w_there}
+use Rattle.release_rules.specs.Flags.{has_p as has_p_there, has_s as has_s_there, has_w as has_w_there}
 use Rattle.release_rules.specs.Paths.{directory_of, lies_in, path_text}
 use Rattle.release_rules.specs.Question.{Question, is_in_groups}
 use Rattle.release_rules.specs.Verdicts.{allows as allows_there, may_allow}
@@ -52,7 +52,7 @@ pub record StandsFor (s : Switches) (g : Grant) (own : OwnGrant) : Type 0 where
   pub gids : own.gids ≡ (if has_user s g then g.gids else [])
   pub path : (names : List (List ℕ)) → All (λ name. IsTrue (is_name name)) names → lies_outside s g names ≡ not (starts_with bytes_eq names own.path)
   pub writes : has_w own.flags ≡ has_w_there g.flags
-  pub snapshots : has_s own.flags ≡ has_s_there g.flags
+  pub snapshots : has_w_there g.flags ≡ true → has_s own.flags ≡ has_s_there g.flags
   pub squashes : own.root_squash ≡ g.root_squash
   pub network : g.network ≡ None
 
@@ -68,7 +68,25 @@ abbrev pub ChangesModeByWriting : Type 0
 ChangesModeByWriting = (s : Switches) (g : Grant) (own : OwnGrant) (fs : List ℕ) (caller : Caller) (path : List (List ℕ)) (attr : Attr) → StandsFor s g own → CountsWhole caller
     → All (λ name. IsTrue (is_name name)) path → may_allow s (asked_there fs caller path attr accesses.Chmod) g ≡ allows (question fs caller path attr accesses.Write) own
 
--- the same of whole lists, grant by grant: some grant of the one allows it there, wherever the client is, exactly if some grant of the other does here
+-- to change the owner is there what is here to write and to change the owner
+abbrev pub ChangesOwnerByBoth : Type 0
+ChangesOwnerByBoth = (s : Switches) (g : Grant) (own : OwnGrant) (fs : List ℕ) (caller : Caller) (path : List (List ℕ)) (attr : Attr) (uid : ℕ) → StandsFor s g own → CountsWhole caller
+    → All (λ name. IsTrue (is_name name)) path → may_allow s (asked_there fs caller path attr (accesses.Chown uid)) g
+    ≡ (allows (question fs caller path attr accesses.Write) own && allows (question fs caller path attr (accesses.Chown uid)) own)
+
+-- and to change the group what is here to write and to change the group
+abbrev pub ChangesGroupByBoth : Type 0
+ChangesGroupByBoth = (s : Switches) (g : Grant) (own : OwnGrant) (fs : List ℕ) (caller : Caller) (path : List (List ℕ)) (attr : Attr) (gid : ℕ) → StandsFor s g own → CountsWhole caller
+    → All (λ name. IsTrue (is_name name)) path → may_allow s (asked_there fs caller path attr (accesses.Chgrp gid)) g
+    ≡ (allows (question fs caller path attr accesses.Write) own && allows (question fs caller path attr (accesses.Chgrp gid)) own)
+
+-- to set an attribute of any inode is there, by a grant with p, what to read is here for the owner, where the owner may
+abbrev pub SetsVxattrAsOwnerReads : Type 0
+SetsVxattrAsOwnerReads = (s : Switches) (g : Grant) (own : OwnGrant) (fs : List ℕ) (caller : Caller) (path : List (List ℕ)) (attr : Attr) → StandsFor s g own → CountsWhole caller
+    → All (λ name. IsTrue (is_name name)) path → has_p_there g.flags ≡ true
+    → may_allow s (asked_there fs caller path attr accesses.SetVxattr) g ≡ allows (question fs caller path (record attr { uid = caller.uid; mode = 0o600 }) accesses.Read) own
+
+-- what is asked alike, of whole lists, grant by grant: some grant of the one allows it there, wherever the client is, exactly if some grant of the other does here
 abbrev pub JudgesListsAlike : Type 0
 JudgesListsAlike = (s : Switches) (grants : List Grant) (owns : List OwnGrant) (fs : List ℕ) (caller : Caller) (path : List (List ℕ)) (attr : Attr) (access : Access) → AllZip (StandsFor s) grants owns → CountsWhole caller
     → All (λ name. IsTrue (is_name name)) path → AsksAlike access → list_any (allows_there s (asked_there fs caller path attr access)) grants ≡ granted (question fs caller path attr access) owns

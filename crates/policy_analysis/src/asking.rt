@@ -10,9 +10,38 @@ use capgrant::{Access, Attr, Question};
 use capspec::{FsName, Grant, TreePath};
 use std::marker::Model;
 
+/// Which accesses are asked for.
+#[derive(Clone, Copy)]
+pub(crate) enum Accesses {
+    /// Each, by the rules of this server.
+    All,
+    /// Of grants that stand for those of an MDS: all but attributes, which it judges otherwise, and changes of the mode and of the owner, which go with
+    /// writing there.
+    OfMds,
+}
+
+impl Accesses {
+    ghost use Rattle.std.specs.Prelude.{◌≡◌};
+    ghost use Rattle.policy_analysis.specs.Asking.{is_wanted};
+
+    // Whether this access is asked for.
+    fn include(self, access: Access) -> bool
+        ensures { result ≡ is_wanted self access }
+    {
+        match self {
+            Accesses::All => true,
+            Accesses::OfMds => !matches!(
+                access,
+                Access::SetVxattr | Access::Chmod | Access::Chown(_)
+            ),
+        }
+    }
+}
+
 /// What the questions have in common.
 #[derive(Drop)]
 pub(crate) struct Setting<'a> {
+    pub(crate) accesses: Accesses,
     pub(crate) old: &'a [Grant],
     pub(crate) new: &'a [Grant],
     pub(crate) fs: &'a FsName,
@@ -78,7 +107,7 @@ impl<'a> Model for Setting<'a> {
 
     ghost Value = { Asked };
 
-    ghost view = { λ s. setting s.old.now s.new.now s.fs.now (map (λ name. name.now) s.path.now) s.nobody };
+    ghost view = { λ s. setting s.accesses s.old.now s.new.now s.fs.now (map (λ name. name.now) s.path.now) s.nobody };
 }
 
 impl Setting<'_> {
@@ -91,7 +120,7 @@ impl Setting<'_> {
     /// Asks for all that the grant allows to root, or to callers who are not root.
     pub(crate) fn ask_for(&self, grant: &Grant, root: bool) -> Option<Found>
         requires { IsSettingFor self.now grant.now }
-        ensures none { IfNone result (CoversGrant self.now.old root grant.now) }
+        ensures none { IfNone result (CoversGrant self.now.accesses self.now.old root grant.now) }
         ensures found { IfSome result (IsFound self.now root) }
     {
         let uid = uid_for(grant, root, self.nobody);
@@ -250,6 +279,9 @@ impl Setting<'_> {
         ensures none { IfNone result (is_gained self.now (asked self.now caller.now attr.now access) ≡ false) }
         ensures found { IfSome result (IsFound self.now (is_root caller.now)) }
     {
+        if !self.accesses.include(access) {
+            return None;
+        }
         let question = Question {
             fs: self.fs,
             caller,

@@ -3,6 +3,7 @@
 ghost use Rattle.std.specs.Prelude.{◌≤◌, length, IsTrue, IfOk, IfSome, MatchOption};
 ghost use Rattle.policy_analysis.specs.Comparing.{Covers, CoversBut, IsWitness, is_root};
 
+use crate::asking::Accesses;
 use crate::search::Search;
 use crate::witness::Witness;
 use capspec::{Grant, Grants};
@@ -47,7 +48,7 @@ pub(crate) fn difference<'a>(
     ensures exact { IfOk result (λ found. MatchOption found (Covers old.now new.now) (IsWitness old.now new.now)) }
     ensures root_last { IfOk result (λ found. IfSome found (λ w. IsTrue (is_root w.caller) → CoversBut is_root old.now new.now)) }
 {
-    let search = Search::of(alloc, old, new)?;
+    let search = Search::of(alloc, Accesses::All, old, new)?;
     if let Some(witness) = search.find(alloc, false)? {
         return Ok(Some(witness));
     }

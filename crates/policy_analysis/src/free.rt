@@ -3,7 +3,7 @@
 ghost use Rattle.std.specs.Prelude.{◌≡◌, ◌≢◌, ℕ, ◌+◌, ◌*◌, ◌<◌, ◌≤◌, ◌++◌, Some, false, length, slice_get, IfOk, OnOk, IfSome, All, Contains};
 ghost use Rattle.std.specs.List.{flat_map};
 ghost use Rattle.capgrant.specs.Question.{contains};
-ghost use Rattle.policy_analysis.specs.Free.{IsLetter, NoneLists, NoneNames};
+ghost use Rattle.policy_analysis.specs.Free.{IsLetter, NoneAreFor, NoneLists, NoneNames, ids_of};
 
 use arrayvec::ArrayVec;
 use capspec::{FsName, Grant};
@@ -52,6 +52,35 @@ pub(crate) fn free_gid(alloc: Global, one: &[Grant], other: &[Grant]) -> Result<
     push_gids(&mut gids, one)?;
     push_gids(&mut gids, other)?;
     Ok(free_number(gids.as_slice()))
+}
+
+/// A number that is no gid and no uid of any grant of the two lists, and not 0.
+pub(crate) fn free_id(alloc: Global, one: &[Grant], other: &[Grant]) -> Result<u32, AllocError>
+    requires one { length one.now ≤ 16 }
+    requires other { length other.now ≤ 16 }
+    ensures above { IfOk result (λ id. 0 < id) }
+    ensures one { IfOk result (λ id. NoneLists id one.now × NoneAreFor id one.now) }
+    ensures other { IfOk result (λ id. NoneLists id other.now × NoneAreFor id other.now) }
+{
+    let mut ids = Vec::new(alloc);
+    push_ids(&mut ids, one)?;
+    push_ids(&mut ids, other)?;
+    Ok(free_number(ids.as_slice()))
+}
+
+// Appends the gids and the uids that the grants have.
+fn push_ids(ids: &mut Vec<u32>, grants: &[Grant]) -> Result<(), AllocError>
+    ensures items { OnOk result (ids.new.items ≡ ids.old.items ++ flat_map ids_of grants.now) }
+    ensures few { OnOk result (length ids.new.items ≤ length ids.old.items + 17 * length grants.now) }
+{
+    for grant in grants {
+        ids.reserve(grant.gids.len())?;
+        ids.extend_from_slice(grant.gids.as_slice())?;
+        if let Some(uid) = grant.uid {
+            ids.push(uid)?;
+        }
+    }
+    Ok(())
 }
 
 // Appends the gids that the grants list.

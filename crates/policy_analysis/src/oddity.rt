@@ -124,7 +124,7 @@ fn has_no_network(grant: &Grant) -> bool
     }
 }
 
-fn has_two_slashes(switches: Switches, grant: &Grant) -> bool
+pub(crate) fn has_two_slashes(switches: Switches, grant: &Grant) -> bool
     ensures { result ≡ has_two_slashes switches grant.now }
 {
     match &grant.path {
@@ -133,7 +133,7 @@ fn has_two_slashes(switches: Switches, grant: &Grant) -> bool
     }
 }
 
-fn has_large_uid(grant: &Grant) -> bool
+pub(crate) fn has_large_uid(grant: &Grant) -> bool
     ensures { result ≡ has_large_uid grant.now }
 {
     grant.uid.is_some_and(|uid| uid >= 2_147_483_648)

@@ -4,4 +4,4 @@ use Rattle.policy_analysis.specs.Asking.{CoversGrant}
 use Rattle.policy_analysis.proofs.search.Search.find.Given as goal
 
 abbrev pub invariant-loop-grant : goal.invariant-loop-grant
-invariant-loop-grant l = All (CoversGrant l.self.old.now l.root) (take l.grant-index l.self.new.now)
+invariant-loop-grant l = All (CoversGrant l.self.accesses l.self.old.now l.root) (take l.grant-index l.self.new.now)
