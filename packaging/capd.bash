@@ -5,10 +5,10 @@ _capd() {
         mapfile -t COMPREPLY < <(compgen -W 'explain grants compare lint who audit log run serve help --help --version' -- "$word")
     elif [[ ${COMP_WORDS[1]} == help ]]; then
         mapfile -t COMPREPLY < <(compgen -W 'explain grants compare lint who audit log run serve' -- "$word")
-    elif [[ ${COMP_WORDS[1]} == compare ]]; then
-        mapfile -t COMPREPLY < <(compgen -W '--json --help' -- "$word")
     elif [[ $before == --mds ]]; then
         mapfile -t COMPREPLY < <(compgen -W '16 18 20' -- "$word")
+    elif [[ ${COMP_WORDS[1]} == compare ]]; then
+        mapfile -t COMPREPLY < <(compgen -W '--json --mds --addr --help' -- "$word")
     elif [[ ${COMP_WORDS[1]} == log ]]; then
         mapfile -t COMPREPLY < <(compgen -W '--fs --denied --mds --help' -- "$word")
     elif [[ ${COMP_WORDS[1]} == lint ]]; then

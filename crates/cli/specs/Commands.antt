@@ -1,7 +1,6 @@
 -- What a command writes, and why it stops before its end.
 use Rattle.std.specs.Prelude.{◌≡◌, ◌≢◌, ◌↔◌, ◌⊎◌, ◌<◌, ◌≤◌, ⊤, ℕ, Bool, List, [], length, Option, Err, IfSome, IsTrue}
 use Rattle.std.specs.Io.KnownBytes.{Appends, Keeps}
-use Rattle.queries.specs.Comparing.{IsComparison}
 use Rattle.texts.specs.declared.fault.ScriptFault.{ScriptFault}
 use Rattle.texts.specs.declared.fault.ScriptFault.TheVariants as stops
 use Rattle.texts.specs.ScriptLines.{lines, longest_script}
@@ -14,7 +13,7 @@ use Rattle.cli_queries.specs.declared.command_line.Invocation.TheVariants as inv
 use Rattle.cli_queries.specs.declared.fault.AnswerFault.{AnswerFault}
 use Rattle.cli_queries.specs.Files.{ReadsFile}
 use Rattle.cli_queries.specs.FileSystems.{Notes}
-use Rattle.cli_queries.specs.Answers.{AnswersExplainArgs, AnswersGrants, AnswersLint, StopsComparing, StopsExplainArgs, StopsGrants, StopsLint}
+use Rattle.cli_queries.specs.Answers.{AnswersComparing, AnswersExplainArgs, AnswersGrants, AnswersLint, StopsComparing, StopsExplainArgs, StopsGrants, StopsLint}
 use Rattle.cli_queries.specs.AuditArgs.{AnswersAuditArgs, StopsAuditArgs}
 use Rattle.cli_queries.specs.WhoArgs.{AnswersWhoArgs, StopsWhoArgs}
 use Rattle.queries.specs.Reported.{scope}
@@ -28,7 +27,7 @@ use Rattle.cli.specs.declared.stopping.Fault.TheVariants.{Answer, Script, Serve}
 abbrev pub Answers : Invocation → Option (List ℕ) → ℕ → Option (List ℕ) → Option (List ℕ) → Type 0
 Answers (invocations.Explain explain_args) input status old new = AnswersExplainArgs explain_args input status old new
 Answers (invocations.Grants text more mds) input status old new = (status ≡ 0) × AnswersGrants mds text.items old new
-Answers (invocations.Compare before after shape) input status old new = (status ≡ 0) × ((lines : List ℕ) × IsComparison shape before.items after.items lines × Appends old new lines)
+Answers (invocations.Compare before after shape mds addr) input status old new = (status ≡ 0) × AnswersComparing mds addr shape before.items after.items old new
 Answers (invocations.Lint text shape mds) input status old new = AnswersLint mds shape text.items status old new
 Answers (invocations.Who who_args) input status old new = AnswersWhoArgs who_args input status old new
 Answers (invocations.Audit audit_args) input status old new = AnswersAuditArgs audit_args input status old new
@@ -64,7 +63,7 @@ TellsOfAnswer P (Serve stop) = ⊥
 abbrev pub Stops : Invocation → Fault → Option (List ℕ) → Bool → Bool → Bool → Option (List ℕ) → Option (List ℕ) → Type 0
 Stops (invocations.Explain explain_args) fault input ended unread unwritten old new = TellsOfAnswer (λ reported. StopsExplainArgs explain_args reported input unread unwritten old new) fault
 Stops (invocations.Grants text more mds) fault input ended unread unwritten old new = TellsOfAnswer (λ reported. StopsGrants mds text.items reported unwritten old new) fault
-Stops (invocations.Compare before after shape) fault input ended unread unwritten old new = TellsOfAnswer (λ reported. StopsComparing before.items after.items reported unwritten old new) fault
+Stops (invocations.Compare before after shape mds addr) fault input ended unread unwritten old new = TellsOfAnswer (λ reported. StopsComparing mds addr before.items after.items reported unwritten old new) fault
 Stops (invocations.Lint text shape mds) fault input ended unread unwritten old new = TellsOfAnswer (λ reported. StopsLint mds text.items reported unwritten old new) fault
 Stops (invocations.Who who_args) fault input ended unread unwritten old new = TellsOfAnswer (λ reported. StopsWhoArgs who_args reported input unread unwritten old new) fault
 Stops (invocations.Audit audit_args) fault input ended unread unwritten old new = TellsOfAnswer (λ reported. StopsAuditArgs audit_args reported input unread unwritten old new) fault

@@ -17,8 +17,8 @@ use crate::serving::serve;
 use crate::stopping::Fault;
 use capscript::{ServeFault, run};
 use cli_queries::{
-    DENIED, DONE, FAILED, FOUND, Invocation, USAGE, audit, compare_texts, explain, gather, grants,
-    keyring_file, lint, log, note, read_words, report, show, who,
+    ComparedBy, DENIED, DONE, FAILED, FOUND, Invocation, USAGE, audit, compare_texts, explain,
+    gather, grants, keyring_file, lint, log, note, read_words, report, show, who,
 };
 use queries::LogScope;
 use std::alloc::Global;
@@ -121,8 +121,15 @@ fn answer<T: Threads + Wait + Sync, R: Read, W: Write>(
         Invocation::Grants { text, more: _, mds } => {
             grants(alloc, text.as_slice(), *mds, writer)
         }
-        Invocation::Compare { old, new, shape } => {
-            compare_texts(alloc, old.as_slice(), new.as_slice(), *shape, writer)
+        Invocation::Compare {
+            old,
+            new,
+            shape,
+            mds,
+            addr,
+        } => {
+            let by = ComparedBy { mds: *mds, addr };
+            compare_texts(alloc, old.as_slice(), new.as_slice(), by, *shape, writer)
         }
         Invocation::Lint { text, shape, mds } => {
             lint(alloc, text.as_slice(), *shape, *mds, writer)

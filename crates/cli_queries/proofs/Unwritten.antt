@@ -30,12 +30,16 @@ use Rattle.texts.specs.declared.shape.Shape.{Shape}
 use Rattle.queries.proofs.TextFault.{text_fault}
 use Rattle.cli_queries.specs.declared.fault.AnswerFault.{AnswerFault}
 use Rattle.cli_queries.specs.declared.fault.AnswerFault.TheVariants.{NoMemory, WriteFailed}
-use Rattle.cli_queries.specs.Answers.{AnswersGrants, AnswersLint, IsLintFor, StopsBefore, StopsBy, StopsGrants, StopsLint, WritesFound}
+use Rattle.queries.specs.declared.comparing.CompareFault.{CompareFault}
+use Rattle.queries.specs.declared.comparing_by.MdsCompareFault.{MdsCompareFault}
+use Rattle.queries.specs.Comparing.{IsFaultOfTexts}
+use Rattle.queries.specs.ComparingBy.{IsFaultBy}
+use Rattle.cli_queries.specs.Answers.{AnswersGrants, AnswersLint, IsLintFor, StopsBefore, StopsBy, StopsComparing, StopsGrants, StopsLint, WritesFound}
 use Rattle.cli_queries.specs.declared.explain_args.Form.{Form}
 use Rattle.cli_queries.specs.declared.explain_args.Form.TheVariants as forms
 use Rattle.cli_queries.specs.ExplainArgs.{AnswersBy, IsAnswered, IsAnsweredBy}
 use Rattle.queries.specs.Remarks.{remarked_answer, remarked_object}
-use Rattle.cli_queries.specs.Fault.{Tells, fault_of, form_fault_of, mds_fault_of}
+use Rattle.cli_queries.specs.Fault.{Tells, compare_fault_of, fault_of, form_fault_of, mds_compare_fault_of, mds_fault_of}
 
 pub unchanged : (known : Option (List ℕ)) → Keeps known known
 unchanged None = tt
@@ -165,3 +169,21 @@ module _ (text : List ℕ) (old new : Option (List ℕ)) (failed : Bool) where
   pub written_lint : (mds : Option Release) (shape : Shape) (lines : List ℕ) (answer : Result ℕ AnswerFault) → IsLintFor mds shape text lines → IfOk answer (λ status. WritesFound shape lines status old new) → IfOk answer (λ status. AnswersLint mds shape text status old new)
   written_lint mds shape lines (Ok status) is told = (lines, is, told)
   written_lint mds shape lines (Err fault) is told = tt
+
+-- ---- what is compared
+
+module _ (before after : List ℕ) (addr : Option (Vec ℕ)) (old new : Option (List ℕ)) (failed : Bool) where
+  pub refused_comparison : {T : Type 0} (found : CompareFault) (answer : Result T AnswerFault) → IsFaultOfTexts before after found → IsErrAnd answer (λ fault. fault ≡ compare_fault_of found)
+      → IfErr answer (λ fault. StopsComparing None addr before after fault failed old old)
+  refused_comparison found (Ok x) why reported = tt
+  refused_comparison found (Err fault) why reported = inr ((found, reported, why), unchanged old)
+
+  pub refused_comparison_by : {T : Type 0} (release : Release) (found : MdsCompareFault) (answer : Result T AnswerFault) → IsFaultBy release addr before after found → IsErrAnd answer (λ fault. fault ≡ mds_compare_fault_of found)
+      → IfErr answer (λ fault. StopsComparing (Some release) addr before after fault failed old old)
+  refused_comparison_by release found (Ok x) why reported = tt
+  refused_comparison_by release found (Err fault) why reported = inr (found, reported, why, unchanged old)
+
+  pub unwritten_comparison : {T : Type 0} (mds : Option Release) (answer : Result T AnswerFault) → IfErr answer (λ fault. (fault ≡ WriteFailed) × IsTrue failed) → IfErr answer (λ fault. StopsComparing mds addr before after fault failed old new)
+  unwritten_comparison mds (Ok x) why = tt
+  unwritten_comparison None (Err fault) why = inl why
+  unwritten_comparison (Some release) (Err fault) why = inl why

@@ -17,20 +17,34 @@ use Rattle.queries.specs.Mds.{IsFaultThere, IsMdsFault}
 use Rattle.queries.specs.Question.{IsFaultIn}
 use Rattle.texts.specs.declared.shape.Shape.{Shape}
 use Rattle.texts.specs.Shapes.{nothing_in}
+use Rattle.queries.specs.Comparing.{IsComparison}
+use Rattle.queries.specs.ComparingBy.{IsComparisonBy, IsFaultBy}
 use Rattle.queries.specs.Linting.{IsLintBy, IsLintOf}
+use Rattle.queries.specs.declared.comparing_by.MdsCompareFault.{MdsCompareFault}
 use Rattle.cli_queries.specs.declared.fault.AnswerFault.{AnswerFault}
 use Rattle.cli_queries.specs.declared.fault.AnswerFault.TheVariants.{NoMemory, WriteFailed}
 use Rattle.cli_queries.specs.declared.explain_args.ExplainArgs.{ExplainArgs}
-use Rattle.cli_queries.specs.Fault.{Tells, TellsOfTexts, form_fault_of, mds_fault_of}
+use Rattle.cli_queries.specs.Fault.{Tells, TellsOfTexts, form_fault_of, mds_compare_fault_of, mds_fault_of}
 use Rattle.cli_queries.specs.ExplainArgs.{AnswersBy, IsGrantsText, IsUnread, with_grants}
 
 -- a write failed, or the fault is one of which this holds, and nothing was written
 abbrev pub StopsBefore : (QuestionFault → Type 0) → AnswerFault → Bool → Option (List ℕ) → Option (List ℕ) → Type 0
 StopsBefore P fault failed old new = ((fault ≡ WriteFailed) × IsTrue failed) ⊎ (Tells P fault × Keeps old new)
 
--- the same of two texts that are compared
-abbrev pub StopsComparing : List ℕ → List ℕ → AnswerFault → Bool → Option (List ℕ) → Option (List ℕ) → Type 0
-StopsComparing before after fault failed old new = ((fault ≡ WriteFailed) × IsTrue failed) ⊎ (TellsOfTexts before after fault × Keeps old new)
+-- the lines that compare two texts, by the rules of a release where one is named
+abbrev pub IsComparisonFor : Option Release → Option (Vec ℕ) → Shape → List ℕ → List ℕ → List ℕ → Type 0
+IsComparisonFor None addr shape before after lines = IsComparison shape before after lines
+IsComparisonFor (Some release) addr shape before after lines = IsComparisonBy release addr shape before after lines
+
+-- such lines were written
+abbrev pub AnswersComparing : Option Release → Option (Vec ℕ) → Shape → List ℕ → List ℕ → Option (List ℕ) → Option (List ℕ) → Type 0
+AnswersComparing mds addr shape before after old new = (lines : List ℕ) × IsComparisonFor mds addr shape before after lines × Appends old new lines
+
+-- none were: a write failed, or nothing was written, by why the texts are not compared
+abbrev pub StopsComparing : Option Release → Option (Vec ℕ) → List ℕ → List ℕ → AnswerFault → Bool → Option (List ℕ) → Option (List ℕ) → Type 0
+StopsComparing None addr before after fault failed old new = ((fault ≡ WriteFailed) × IsTrue failed) ⊎ (TellsOfTexts before after fault × Keeps old new)
+StopsComparing (Some release) addr before after fault failed old new =
+    ((fault ≡ WriteFailed) × IsTrue failed) ⊎ ((found : MdsCompareFault) × (fault ≡ mds_compare_fault_of found) × IsFaultBy release addr before after found × Keeps old new)
 
 -- the question of `explain` was answered with this status, by the text of the grants from where it is
 pub record AnswersExplainArgs (explain_args : ExplainArgs) (input : Option (List ℕ)) (status : ℕ) (old new : Option (List ℕ)) : Type 0 where

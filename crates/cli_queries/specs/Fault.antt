@@ -11,13 +11,15 @@ use Rattle.queries.specs.declared.mds.MdsFault.TheVariants as mds
 use Rattle.queries.specs.declared.comparing.CompareFault.{CompareFault}
 use Rattle.queries.specs.declared.comparing.CompareFault.TheVariants as compared
 use Rattle.queries.specs.Comparing.{IsFaultOfTexts}
+use Rattle.queries.specs.declared.comparing_by.MdsCompareFault.{MdsCompareFault}
+use Rattle.queries.specs.declared.comparing_by.MdsCompareFault.TheVariants as compared_by
 use Rattle.ceph_input.specs.FsNames.{fs_among}
 use Rattle.ceph_input.specs.declared.auth_fault.AuthFault.{AuthFault}
 use Rattle.ceph_input.specs.declared.auth_fault.AuthFault.TheVariants as auths
 use Rattle.ceph_input.specs.declared.keyring_fault.KeyringFault.{KeyringFault}
 use Rattle.ceph_input.specs.declared.keyring_fault.KeyringFault.TheVariants as keyrings
 use Rattle.cli_queries.specs.declared.fault.AnswerFault.{AnswerFault}
-use Rattle.cli_queries.specs.declared.fault.AnswerFault.TheVariants.{Auth, Compare, Keyring, NoForm, NoMemory, NotRead, Question, SeveralFileSystems}
+use Rattle.cli_queries.specs.declared.fault.AnswerFault.TheVariants.{Auth, Compare, Keyring, MdsCompare, NoForm, NoMemory, NotRead, Question, SeveralFileSystems}
 
 -- want of memory stays that; any other fault is passed on as it is
 abbrev pub fault_of : QuestionFault → AnswerFault
@@ -60,6 +62,13 @@ abbrev pub compare_fault_of : CompareFault → AnswerFault
 compare_fault_of (compared.Old refused) = Compare (compared.Old refused)
 compare_fault_of (compared.New refused) = Compare (compared.New refused)
 compare_fault_of compared.NoMemory = NoMemory
+
+-- the same of two that are compared by the rules of a release; a bad address is told as that of a question
+abbrev pub mds_compare_fault_of : MdsCompareFault → AnswerFault
+mds_compare_fault_of (compared_by.Old why) = MdsCompare (compared_by.Old why)
+mds_compare_fault_of (compared_by.New why) = MdsCompare (compared_by.New why)
+mds_compare_fault_of (compared_by.Question fault) = fault_of fault
+mds_compare_fault_of compared_by.NoMemory = NoMemory
 
 -- what is told is why these two texts are not compared
 abbrev pub TellsOfTexts : List ℕ → List ℕ → AnswerFault → Type 0

@@ -16,7 +16,7 @@ IsInFile (sources.Auth file client) = file.items ≢ codes "-"
 abbrev pub ReadsFile : Invocation → Type 0
 ReadsFile (invocations.Explain explain_args) = IsInFile explain_args.source
 ReadsFile (invocations.Grants text more mds) = ⊥
-ReadsFile (invocations.Compare old new shape) = ⊥
+ReadsFile (invocations.Compare old new shape mds addr) = ⊥
 ReadsFile (invocations.Lint text shape mds) = ⊥
 ReadsFile (invocations.Who who_args) = who_args.auth.items ≢ codes "-"
 ReadsFile (invocations.Audit audit_args) = audit_args.files.tree.items ≢ codes "-"

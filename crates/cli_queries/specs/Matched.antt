@@ -154,7 +154,8 @@ pub record IsAuditArgs (words : List Row) (audit_args : AuditArgs) : Type 0 wher
 abbrev pub AsksFor : List ℕ → List Row → Invocation → Type 0
 AsksFor name words (invocations.Explain explain_args) = (name ≡ codes "explain") × IsExplainArgs words explain_args
 AsksFor name words (invocations.Grants text more mds) = (name ≡ codes "grants") × IsValue words (codes "text") text × IsFlag words (codes "more") more × IsMds words mds
-AsksFor name words (invocations.Compare old new shape) = (name ≡ codes "compare") × IsValue words (codes "old") old × IsValue words (codes "new") new × IsShape words shape
+AsksFor name words (invocations.Compare old new shape mds addr) =
+    (name ≡ codes "compare") × IsValue words (codes "old") old × IsValue words (codes "new") new × IsShape words shape × IsMds words mds × IsGiven words (option_name options.Addr) addr
 AsksFor name words (invocations.Lint text shape mds) = (name ≡ codes "lint") × IsValue words (codes "text") text × IsShape words shape × IsMds words mds
 AsksFor name words (invocations.Who who_args) = (name ≡ codes "who") × IsWhoArgs words who_args
 AsksFor name words (invocations.Audit audit_args) = (name ≡ codes "audit") × IsAuditArgs words audit_args

@@ -10,7 +10,9 @@ use crate::status::{FAILED, report};
 use capspec::SpecFaultKind;
 use ceph_input::{AuthFault, ClusterFault, KeyringFault, TreeFault};
 use cluster_audit::HeldFault;
-use queries::{AttemptValues, CompareFault, Opt, QuestionFault, Values};
+use queries::{
+    AttemptValues, CompareFault, MdsCompareFault, Opt, QuestionFault, Uncompared, Values,
+};
 use std::alloc::{AllocError, Global};
 use std::io::Write;
 use texts::print_quoted;
@@ -83,6 +85,7 @@ fn value_of(invocation: &Invocation, option: Opt) -> &[u8] {
             only_denied: _,
             mds: _,
         } => fs.as_slice(),
+        Invocation::Compare { addr, .. } => value_or_none(addr),
         _ => b"",
     }
 }
@@ -143,7 +146,8 @@ fn advice(fault: AnswerFault, refused: Option<(&[u8], usize)>) -> Option<&'stati
     match fault {
         AnswerFault::Question(QuestionFault::Grants(_))
         | AnswerFault::NotRead(_)
-        | AnswerFault::Compare(_) => {
+        | AnswerFault::Compare(_)
+        | AnswerFault::MdsCompare(_) => {
             let (text, at) = refused?;
             pasted(text, at)
         }
@@ -221,6 +225,7 @@ fn refused<'a>(invocation: &'a Invocation, fault: AnswerFault) -> Option<(&'a [u
         (Invocation::Explain(explain_args), _) => &explain_args.values.grants,
         (Invocation::Grants { text, .. } | Invocation::Lint { text, .. }, _) => text,
         (Invocation::Compare { old, .. }, AnswerFault::Compare(CompareFault::Old(_))) => old,
+        (Invocation::Compare { old, .. }, AnswerFault::MdsCompare(MdsCompareFault::Old(_))) => old,
         (Invocation::Compare { new, .. }, _) => new,
         _ => return None,
     };
@@ -231,6 +236,10 @@ fn refused<'a>(invocation: &'a Invocation, fault: AnswerFault) -> Option<(&'a [u
 fn place_of(fault: AnswerFault) -> Option<usize> {
     let found = match fault {
         AnswerFault::NotRead(found) => return Some(found.at),
+        AnswerFault::MdsCompare(
+            MdsCompareFault::Old(Uncompared::NotRead(found))
+            | MdsCompareFault::New(Uncompared::NotRead(found)),
+        ) => return Some(found.at),
         AnswerFault::Question(QuestionFault::Grants(found))
         | AnswerFault::Compare(CompareFault::Old(found) | CompareFault::New(found)) => found,
         _ => return None,

@@ -92,6 +92,10 @@ pub enum Invocation {
         new: Vec<u8>,
         /// How the answer is written.
         shape: Shape,
+        /// The release by whose rules they are compared; this server's where there is none.
+        mds: Option<Release>,
+        /// The address that the client comes from, where it is given.
+        addr: Option<Vec<u8>>,
     },
     /// What is found in the grants of a text.
     Lint {
@@ -140,6 +144,8 @@ impl Drop for Invocation {
                 old: _,
                 new: _,
                 shape: _,
+                mds: _,
+                addr: _,
             } => {}
             Invocation::Lint {
                 text: _,

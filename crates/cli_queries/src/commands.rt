@@ -6,11 +6,10 @@ ghost use Rattle.capspec.specs.Written.{written};
 ghost use Rattle.capspec.specs.declared.grant.Grant.{Grant};
 ghost use Rattle.queries.specs.declared.question.Question.{Question as Asked};
 ghost use Rattle.queries.specs.Fault.{IsFaultOfText};
-ghost use Rattle.queries.specs.Comparing.{IsComparison};
 ghost use Rattle.queries.specs.Question.{AsksFor, IsFaultIn};
 ghost use Rattle.texts.specs.Watched.{has_ended, has_failed, inner_of};
 ghost use Rattle.cli_queries.specs.declared.fault.AnswerFault.TheVariants as faults;
-ghost use Rattle.cli_queries.specs.Answers.{AnswersExplainArgs, AnswersGrants, AnswersLint, StopsBefore, StopsBy, StopsComparing, StopsExplainArgs};
+ghost use Rattle.cli_queries.specs.Answers.{AnswersComparing, AnswersExplainArgs, AnswersGrants, AnswersLint, StopsBefore, StopsBy, StopsComparing, StopsExplainArgs};
 ghost use Rattle.cli_queries.specs.Answers.{StopsGrants, StopsLint, WritesFound};
 ghost use Rattle.cli_queries.specs.ExplainArgs.{AnswersBy, IsAnswered, IsAnsweredBy};
 ghost use Rattle.cli_queries.specs.Fault.{form_fault_of};
@@ -20,7 +19,8 @@ use crate::fault::AnswerFault;
 use crate::status::{DENIED, DONE, FOUND};
 use capspec::{read_grants, write_grants};
 use queries::{
-    MdsAnswer, MdsAsking, NotRead, Question, Values, compare, lint_by, lint_text, mds_grants,
+    MdsAnswer, MdsAsking, NotRead, Question, Values, compare, compare_by, lint_by, lint_text,
+    mds_grants,
 };
 use release_rules::{NoForm, Release, mds_form};
 use std::alloc::Global;
@@ -242,24 +242,41 @@ fn form_fault(release: Release, none: NoForm) -> AnswerFault
     }
 }
 
+/// By whose rules two texts of grants are compared.
+#[derive(Clone, Copy)]
+pub struct ComparedBy<'a> {
+    /// The release; this server where there is none.
+    pub mds: Option<Release>,
+    /// The address that the client comes from, where it is given.
+    pub addr: &'a Option<Vec<u8>>,
+}
+
 /// Writes in this shape what the grants of one text allow and those of another deny, and the other way round.
 pub fn compare_texts<W: Write>(
     alloc: Global,
     before: &[u8],
     after: &[u8],
+    by: ComparedBy<'_>,
     shape: Shape,
     writer: &mut Watched<W>,
 ) -> Result<u8, AnswerFault>
     requires { IsFalse (has_failed writer.old) }
     ensures ok { OnOk result (IsFalse (has_failed writer.new)) }
     ensures status { IfOk result (λ status. status ≡ DONE) }
-    ensures compared { OnOk result ((lines : List ℕ) × IsComparison shape before.now after.now lines
-        × Appends (W.contents (inner_of writer.old)) (W.contents (inner_of writer.new)) lines) }
-    ensures fault { IfErr result (λ fault. StopsComparing before.now after.now fault (has_failed writer.new)
+    ensures compared { OnOk result (AnswersComparing by.entry.mds by.entry.addr.now shape before.now after.now (W.contents (inner_of writer.old)) (W.contents (inner_of writer.new))) }
+    ensures fault { IfErr result (λ fault. StopsComparing by.entry.mds by.entry.addr.now before.now after.now fault (has_failed writer.new)
         (W.contents (inner_of writer.old)) (W.contents (inner_of writer.new))) }
 {
-    let lines = compare(alloc, before, after, shape)?;
-    write_text(lines.as_slice(), DONE, writer)
+    match by.mds {
+        Some(release) => {
+            let lines = compare_by(alloc, release, by.addr, before, after, shape)?;
+            write_text(lines.as_slice(), DONE, writer)
+        }
+        None => {
+            let lines = compare(alloc, before, after, shape)?;
+            write_text(lines.as_slice(), DONE, writer)
+        }
+    }
 }
 
 /// Writes in this shape what is found in the grants of a text, by the rules of a release alone where one is named, and says by the status whether

@@ -3,7 +3,7 @@
 use capspec::SpecFault;
 use ceph_input::{AuthFault, KeyringFault, TreeFault};
 use cluster_audit::HeldFault;
-use queries::{CompareFault, MdsFault, NotRead, QuestionFault};
+use queries::{CompareFault, MdsCompareFault, MdsFault, NotRead, QuestionFault};
 use release_rules::Release;
 use std::alloc::{AllocError, AllocFailed};
 use std::fmt;
@@ -21,6 +21,8 @@ pub enum AnswerFault {
     NoForm(Release, usize),
     /// One of two texts of grants can't be read.
     Compare(CompareFault),
+    /// Two texts of grants are not compared by the rules of a release.
+    MdsCompare(MdsCompareFault),
     /// A keyring has no grants of the client.
     Keyring(KeyringFault),
     /// The file of the keyring can't be opened.
@@ -55,6 +57,7 @@ impl Display for AnswerFault {
                 write!(f, "grants: Ceph {version} reads no form of grant {grant}",)
             }
             AnswerFault::Compare(fault) => Display::fmt(fault, f),
+            AnswerFault::MdsCompare(fault) => Display::fmt(fault, f),
             AnswerFault::Keyring(fault) => write!(f, "keyring: {fault}"),
             AnswerFault::Unopened => f.write_str("keyring: Unopened"),
             AnswerFault::Auth(fault) => write!(f, "auth: {fault}"),
@@ -177,6 +180,22 @@ impl From<CompareFault> for AnswerFault {
         match asked {
             CompareFault::NoMemory => AnswerFault::NoMemory,
             _ => AnswerFault::Compare(asked),
+        }
+    }
+}
+
+// A bad address is told as that of a question is.
+impl From<MdsCompareFault> for AnswerFault {
+    ghost use Rattle.std.specs.Prelude.{◌≡◌};
+    ghost use Rattle.cli_queries.specs.Fault.{mds_compare_fault_of};
+
+    ghost from_gives = { λ asked fault. fault ≡ mds_compare_fault_of asked };
+
+    fn from(asked: MdsCompareFault) -> Self {
+        match asked {
+            MdsCompareFault::NoMemory => AnswerFault::NoMemory,
+            MdsCompareFault::Question(fault) => AnswerFault::from(fault),
+            _ => AnswerFault::MdsCompare(asked),
         }
     }
 }

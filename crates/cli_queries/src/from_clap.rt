@@ -54,11 +54,16 @@ impl Matched<'_, '_> {
                 more: self.says(MORE),
                 mds: self.mds()?,
             }),
-            COMPARE => Ok(Invocation::Compare {
-                old: self.value(OLD)?,
-                new: self.value(NEW)?,
-                shape: self.shape(),
-            }),
+            COMPARE => {
+                let addr = self.given(Opt::Addr.name())?;
+                Ok(Invocation::Compare {
+                    old: self.value(OLD)?,
+                    new: self.value(NEW)?,
+                    shape: self.shape(),
+                    mds: self.mds()?,
+                    addr,
+                })
+            }
             LINT => Ok(Invocation::Lint {
                 text: self.value(TEXT)?,
                 shape: self.shape(),

@@ -29,7 +29,7 @@ pub use advice::refuse;
 pub use arguments::words;
 pub use audit_args::{AuditArgs, ClusterFiles, audit};
 pub use command_line::Invocation;
-pub use commands::{compare_texts, explain, grants, lint};
+pub use commands::{ComparedBy, compare_texts, explain, grants, lint};
 pub use explain_args::{ExplainArgs, Form, Source};
 pub use fault::AnswerFault;
 pub use file_systems::note;

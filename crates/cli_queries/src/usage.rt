@@ -365,7 +365,7 @@ const GRANTS_WORDS: [Word; 3] = [
     },
 ];
 
-const COMPARE_WORDS: [Word; 3] = [
+const COMPARE_WORDS: [Word; 5] = [
     Word {
         name: Name::Own(OLD),
         value: "OLD",
@@ -383,6 +383,15 @@ const COMPARE_WORDS: [Word; 3] = [
         bars: &[],
     },
     PRINTS_JSON,
+    Word {
+        name: Name::Own(MDS),
+        value: "RELEASE",
+        help: "Compares what the MDS of a release of Ceph says, which reads both texts, and by its rules alone: 16 (16.2.15), 18 (18.2.7) or 20 (20.2.4)",
+        kind: Kind::Optional,
+        needs: None,
+        bars: &[],
+    },
+    ADDRESS,
 ];
 
 const LINT_WORDS: [Word; 3] = [

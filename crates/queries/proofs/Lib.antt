@@ -19,3 +19,4 @@ pub mod Told
 pub mod FewThere
 pub mod Items
 pub mod WrittenChecks
+pub mod ComparedBy

@@ -20,3 +20,4 @@ pub mod Masks
 pub mod Reported
 pub mod LogPieces
 pub mod Items
+pub mod ComparingBy

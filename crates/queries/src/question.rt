@@ -289,7 +289,7 @@ fn read_given_groups(groups: &Option<Vec<u8>>) -> Result<Groups, QuestionFault>
 }
 
 // The address that is given, or none.
-fn read_given_address(addr: &Option<Vec<u8>>) -> Result<Option<IpAddr>, QuestionFault>
+pub(crate) fn read_given_address(addr: &Option<Vec<u8>>) -> Result<Option<IpAddr>, QuestionFault>
     ensures { MatchResult result (IsAddressIf addr.now) (λ fault.
         (fault ≡ QuestionFault.BadValue Opt.Addr) × ((address : Option AnAddress) → ¬ IsAddressIf addr.now address)) }
 {

@@ -23,3 +23,4 @@ pub mod MdsAnswers
 pub mod MdsAsked
 pub mod MdsTold
 pub mod MdsStandings
+pub mod MdsChanges

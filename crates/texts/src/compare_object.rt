@@ -1,7 +1,8 @@
 //! What one list of grants allows and another denies.
 ghost use Rattle.std.specs.Prelude.{◌≡◌, ◌++◌, IfOk, OnOk};
 ghost use Rattle.serde_json.specs.View.{members_view};
-ghost use Rattle.texts.specs.Changes.{change_line, change_lines, with_witness};
+ghost use Rattle.texts.specs.Changes.{change_line, change_lines, change_value, with_witness};
+ghost use Rattle.texts.specs.Values.{json_line};
 
 use crate::question_object::put_question;
 use crate::table::{Members, Piece, print_object, put_all};
@@ -46,9 +47,20 @@ fn print_change(
 ) -> Result<(), AllocError>
     ensures { OnOk result (lines.new.items ≡ lines.old.items ++ change_line change.now found.now) }
 {
-    let Some(witness) = found else {
-        return Ok(());
-    };
+    match found {
+        Some(witness) => print_changed(lines, change, witness),
+        None => Ok(()),
+    }
+}
+
+/// Appends a line of this change, which the witness shows.
+pub(crate) fn print_changed(
+    lines: &mut Vec<u8>,
+    change: &str,
+    witness: &Witness<'_>,
+) -> Result<(), AllocError>
+    ensures { OnOk result (lines.new.items ≡ lines.old.items ++ json_line (change_value change.now witness.now)) }
+{
     let alloc = *lines.allocator();
     let mut members = Map::new(alloc);
     put_all(&mut members, alloc, &[("change", Piece::Word(change))])?;

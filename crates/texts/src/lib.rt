@@ -22,6 +22,7 @@ mod lint_object;
 mod lint_text;
 mod mds_answer;
 mod mds_asked;
+mod mds_change;
 mod mds_text;
 mod part_text;
 mod question_object;
@@ -48,6 +49,7 @@ pub use lint_object::{print_finding_object, print_odd_object, print_refusal_obje
 pub use lint_text::{print_finding, print_odd, print_refusal};
 pub use mds_answer::mds_object;
 pub use mds_asked::MdsAccess;
+pub use mds_change::{Networks, mds_changes};
 pub use mds_text::{mds_lines, print_mds_failures};
 pub use part_text::{print_bytes, print_groups, print_mode};
 pub use quoting::{print_quoted, print_quoted_path};

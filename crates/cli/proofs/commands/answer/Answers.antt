@@ -2,7 +2,7 @@ use Rattle.std.proofs.Common.{ℕ, List, refl, rules, sym, subst, ◌∙◌}
 use Rattle.std.specs.Prelude.{IfErr}
 use Rattle.std.proofs.lemmas.Result.{IfErr-at_err}
 use Rattle.texts.specs.Watched.{has_failed, inner_of}
-use Rattle.cli_queries.specs.Answers.{StopsExplainArgs, StopsGrants, StopsLint}
+use Rattle.cli_queries.specs.Answers.{StopsComparing, StopsExplainArgs, StopsGrants, StopsLint}
 use Rattle.cli_queries.specs.AuditArgs.{StopsAuditArgs}
 use Rattle.cli_queries.specs.WhoArgs.{StopsWhoArgs}
 use Rattle.queries.specs.Reported.{scope}
@@ -21,7 +21,11 @@ returns-in-Err-clause-err g c = elim c.match-invocation.branch [
       let stops = λ (text : List ℕ) (fault : AnswerFault). StopsGrants w.in-Grants.mds text fault (has_failed w.grants-answered.new.writer) (g.W.Write.contents (inner_of c.args.writer.now)) (g.W.Write.contents (inner_of w.grants-answered.new.writer)) in
       let reported = subst (λ (text : List ℕ). IfErr w.grants-answered.result (stops text)) w.as_slice.ensures.value w.grants-answered.ensures.fault in
       rw (w.in-Grants.is, w.writer-is) (IfErr-at_err (stops w.in-Grants.text.items) (sym w.answered-is ∙ c.in-Err.is) reported)
-  | in-Compare w ↦ search rules
+  | in-Compare w ↦
+      let stops = λ (before after : List ℕ) (fault : AnswerFault). StopsComparing w.in-Compare.mds w.in-Compare.addr before after fault (has_failed w.compare_texts-answered.new.writer) (g.W.Write.contents (inner_of c.args.writer.now)) (g.W.Write.contents (inner_of w.compare_texts-answered.new.writer)) in
+      let first = subst (λ (text : List ℕ). IfErr w.compare_texts-answered.result (stops text w.as_slice-in-Compare-2.result.now)) w.as_slice-in-Compare.ensures.value w.compare_texts-answered.ensures.fault in
+      let reported = subst (λ (text : List ℕ). IfErr w.compare_texts-answered.result (stops w.in-Compare.old.items text)) w.as_slice-in-Compare-2.ensures.value first in
+      rw (w.in-Compare.is, w.writer-is) (IfErr-at_err (stops w.in-Compare.old.items w.in-Compare.new.items) (sym w.answered-is ∙ c.in-Err.is) reported)
   | in-Lint w ↦
       let stops = λ (text : List ℕ) (fault : AnswerFault). StopsLint w.in-Lint.mds text fault (has_failed w.lint-answered.new.writer) (g.W.Write.contents (inner_of c.args.writer.now)) (g.W.Write.contents (inner_of w.lint-answered.new.writer)) in
       let reported = subst (λ (text : List ℕ). IfErr w.lint-answered.result (stops text)) w.as_slice-in-Lint.ensures.value w.lint-answered.ensures.fault in

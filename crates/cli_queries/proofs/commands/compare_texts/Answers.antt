@@ -1,0 +1,13 @@
+use Rattle.texts.specs.Watched.{has_failed, inner_of}
+use Rattle.cli_queries.proofs.Unwritten.{refused_comparison, refused_comparison_by}
+use Rattle.cli_queries.proofs.commands.compare_texts.Goals as goal
+
+pub returns-in_err-lines-in-Some-clause-fault : goal.returns-in_err-lines-in-Some-clause-fault
+returns-in_err-lines-in-Some-clause-fault g c =
+    let known = g.W.Write.contents (inner_of c.args.writer.now) in
+    rw c.in-Some.is (refused_comparison_by c.args.before.now c.args.after.now c.args.by.addr.now known known (has_failed c.args.writer.now) c.in-Some.release c.in_err-lines-in-Some.field-0.0 c.from_residual.result c.in_err-lines-in-Some.ensures.err c.from_residual.ensures.1)
+
+pub returns-in_err-lines-in-None-clause-fault : goal.returns-in_err-lines-in-None-clause-fault
+returns-in_err-lines-in-None-clause-fault g c =
+    let known = g.W.Write.contents (inner_of c.args.writer.now) in
+    rw c.in-None.is (refused_comparison c.args.before.now c.args.after.now c.args.by.addr.now known known (has_failed c.args.writer.now) c.in_err-lines-in-None.field-0.0 c.from_residual-in_err-lines-in-None.result c.in_err-lines-in-None.ensures.err c.from_residual-in_err-lines-in-None.ensures.1)
