@@ -1,9 +1,10 @@
 -- What one list of grants allows and another denies by the rules of a release, as lines and as objects.
-use Rattle.std.specs.Prelude.{ℕ, Option, Some, None, List, [], ◌++◌, codes, if◌then◌else◌}
+use Rattle.std.specs.Prelude.{◌≡◌, ⊥, ℕ, Option, Some, None, IfSome, List, [], ◌++◌, codes, if◌then◌else◌}
 use Rattle.policy_analysis.specs.declared.compare_by.Change.{Change}
 use Rattle.policy_analysis.specs.declared.witness.Witness.{Witness}
 use Rattle.texts.specs.Changes.{change_lines, change_value}
 use Rattle.texts.specs.Comparing.{comparison, witness_text}
+use Rattle.texts.specs.Lines.{IsReported, TellTheSame}
 use Rattle.texts.specs.Values.{json_line}
 use Rattle.texts.specs.declared.mds_change.Networks.{Networks}
 use Rattle.texts.specs.declared.mds_change.Networks.TheVariants.{Compared, NotCompared}
@@ -45,3 +46,16 @@ changed_in shape gain loss = mds_change_in shape (codes "gained") (codes "gained
 -- and that networks were not compared, if they were not
 abbrev pub mds_changes : Shape → Option Change → Option Change → Networks → List ℕ
 mds_changes shape gain loss networks = changed_in shape gain loss ++ networks_in shape networks
+
+-- ---- the law
+
+-- the two tell the same question and grant, and whether the address plays a part; or there are none
+abbrev pub SameChangeIf : Option Change → Option Change → Type 0
+SameChangeIf None None = Unit {0}
+SameChangeIf (Some one) (Some other) = TellTheSame one.witness other.witness × (one.by_address ≡ other.by_address)
+SameChangeIf one other = ⊥
+
+-- lines of a comparison that are the same tell the same gain, the same loss, and whether networks were compared
+abbrev pub OneMdsComparison : Type 0
+OneMdsComparison = (g h l m : Option Change) (n o : Networks) → IfSome g (λ c. IsReported c.witness) → IfSome h (λ c. IsReported c.witness) → IfSome l (λ c. IsReported c.witness) → IfSome m (λ c. IsReported c.witness)
+    → mds_changes Lines g l n ≡ mds_changes Lines h m o → SameChangeIf g h × SameChangeIf l m × (n ≡ o)

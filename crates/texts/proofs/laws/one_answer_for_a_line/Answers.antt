@@ -5,6 +5,7 @@ use Rattle.texts.proofs.Clients.{no_fault, one_fault, one_standing}
 use Rattle.texts.proofs.Linted.{one_finding}
 use Rattle.texts.proofs.MdsAnswered.{one_mds_text}
 use Rattle.texts.proofs.MdsClients.{one_mds_client}
+use Rattle.texts.proofs.MdsCompared.{one_mds_comparison}
 use Rattle.texts.proofs.laws.one_answer_for_a_line.Goals as goal
 
 pub returns-clause-answer : goal.returns-clause-answer
@@ -21,6 +22,9 @@ returns-clause-either c = no_fault
 
 pub returns-clause-comparison : goal.returns-clause-comparison
 returns-clause-comparison c = one_comparison
+
+pub returns-clause-comparison_by : goal.returns-clause-comparison_by
+returns-clause-comparison_by c = one_mds_comparison
 
 pub returns-clause-finding : goal.returns-clause-finding
 returns-clause-finding c = one_finding
