@@ -18,14 +18,14 @@ use Rattle.queries.specs.Question.{AsksFor, IsFaultIn, IsGood}
 use Rattle.queries.specs.Mds.{AsksThere, IsFaultThere, IsMdsFault, MdsReads, answer_by}
 use Rattle.queries.specs.declared.mds.MdsAnswer.{MdsAnswer}
 use Rattle.queries.specs.declared.mds.MdsAsking.{MdsAsking}
-use Rattle.release_rules.specs.declared.grant.Grant.{Grant as Given}
+use Rattle.release_grants.specs.declared.grant.Grant.{Grant as Given}
 use Rattle.queries.specs.declared.mds.MdsFault.{MdsFault}
 use Rattle.queries.specs.declared.mds.MdsFault.TheVariants as mds
-use Rattle.release_rules.specs.declared.forms.NoForm.{NoForm as WithoutForm}
+use Rattle.release_grants.specs.declared.forms.NoForm.{NoForm as WithoutForm}
 use Rattle.release_rules.specs.declared.release.Release.{Release}
-use Rattle.release_rules.specs.declared.release.Switches.{Switches}
+use Rattle.release_grants.specs.declared.switches.Switches.{Switches}
 use Rattle.release_rules.specs.Releases.{switches_of}
-use Rattle.release_rules.specs.Written.{IsForm}
+use Rattle.release_grants.specs.Written.{IsForm}
 use Rattle.texts.specs.declared.shape.Shape.{Shape}
 use Rattle.queries.proofs.TextFault.{text_fault}
 use Rattle.cli_queries.specs.declared.fault.AnswerFault.{AnswerFault}

@@ -5,10 +5,10 @@ use Rattle.std.specs.Io.KnownBytes.{Appends, Keeps}
 use Rattle.capspec.specs.declared.grant.Grant.{Grant}
 use Rattle.capspec.specs.Grants.{Reads}
 use Rattle.capspec.specs.Written.{written}
-use Rattle.release_rules.specs.declared.forms.NoForm.{NoForm}
+use Rattle.release_grants.specs.declared.forms.NoForm.{NoForm}
 use Rattle.release_rules.specs.declared.release.Release.{Release}
 use Rattle.release_rules.specs.Releases.{switches_of}
-use Rattle.release_rules.specs.Written.{IsForm}
+use Rattle.release_grants.specs.Written.{IsForm}
 use Rattle.queries.specs.Fault.{IsFaultOfText}
 use Rattle.queries.specs.declared.fault.QuestionFault.{QuestionFault}
 use Rattle.queries.specs.declared.mds.MdsFault.{MdsFault}

@@ -3,8 +3,8 @@ use Rattle.std.specs.Prelude.{◌≡◌, ◌⊎◌, ℕ, List, Option, None}
 use Rattle.queries.specs.declared.fault.QuestionFault.{QuestionFault}
 use Rattle.queries.specs.declared.fault.QuestionFault.TheVariants.{BadValue, Grants}
 use Rattle.queries.specs.declared.fault.QuestionFault.TheVariants as asked
-use Rattle.release_rules.specs.declared.forms.NoForm.{NoForm as WithoutForm}
-use Rattle.release_rules.specs.declared.forms.NoForm.TheVariants as forms
+use Rattle.release_grants.specs.declared.forms.NoForm.{NoForm as WithoutForm}
+use Rattle.release_grants.specs.declared.forms.NoForm.TheVariants as forms
 use Rattle.release_rules.specs.declared.release.Release.{Release}
 use Rattle.queries.specs.declared.mds.MdsFault.{MdsFault}
 use Rattle.queries.specs.declared.mds.MdsFault.TheVariants as mds

@@ -22,7 +22,8 @@ use queries::{
     MdsAnswer, MdsAsking, NotRead, Question, Values, compare, compare_by, lint_by, lint_text,
     mds_grants,
 };
-use release_rules::{NoForm, Release, mds_form};
+use release_grants::{NoForm, mds_form};
+use release_rules::Release;
 use std::alloc::Global;
 use std::io::{Read, Write};
 use texts::{Shape, Watched};

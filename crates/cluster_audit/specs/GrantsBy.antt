@@ -3,7 +3,7 @@ use Rattle.std.specs.Prelude.{◌≡◌, ℕ, Option, Some, None, Ok, Err, List,
 use Rattle.capspec.specs.Faults.{IsFault}
 use Rattle.capspec.specs.Grants.{Reads}
 use Rattle.release_rules.specs.declared.release.Release.{Release}
-use Rattle.release_rules.specs.Reading.{read_of}
+use Rattle.release_grants.specs.Reading.{read_of}
 use Rattle.release_rules.specs.Releases.{switches_of}
 use Rattle.cluster_audit.specs.declared.grants_by.GrantsBy.{GrantsBy}
 use Rattle.cluster_audit.specs.declared.grants_by.GrantsBy.TheVariants.{Own, There}

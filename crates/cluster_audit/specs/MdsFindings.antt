@@ -9,7 +9,7 @@ use Rattle.capgrant.specs.declared.access.Access.TheVariants.{Read, Write}
 use Rattle.capgrant.specs.Permitted.{caps_for}
 use Rattle.policy_analysis.specs.declared.mds_standing.MdsStanding.{MdsStanding}
 use Rattle.policy_analysis.specs.MdsStanding.{MdsWanted, standing_by}
-use Rattle.release_rules.specs.declared.grant.Grant.{Grant}
+use Rattle.release_grants.specs.declared.grant.Grant.{Grant}
 use Rattle.release_rules.specs.declared.release.Release.{Release}
 use Rattle.release_rules.specs.declared.verdict.Verdict.{Verdict}
 use Rattle.release_rules.specs.declared.verdict.Verdict.TheVariants as verdicts

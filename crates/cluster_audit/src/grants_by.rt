@@ -6,7 +6,8 @@ use crate::inode::Inode;
 use crate::mds_findings::{Beyond, beyond_there};
 use capbits::CapSet;
 use capspec::{Grants, SpecFault, SpecFaultKind, read_grants};
-use release_rules::{Grant, Release};
+use release_grants::Grant;
+use release_rules::Release;
 use std::alloc::{AllocError, Global};
 
 /// The grants of a client, by whose rules it is judged.
@@ -14,7 +15,7 @@ pub(crate) enum GrantsBy {
     /// As this server reads them.
     Own(Grants),
     /// As the MDS of a release does, where there is a text.
-    There(Release, Option<release_rules::Grants>),
+    There(Release, Option<release_grants::Grants>),
 }
 
 // Not derived: so the proof of a function that drops one has a single call there.
@@ -69,7 +70,7 @@ impl GrantsBy {
             },
             (Some(release), None) => Ok(Ok(GrantsBy::There(release, None))),
             (Some(release), Some(text)) => {
-                match release_rules::read_grants(alloc, text, release.switches())? {
+                match release_grants::read_grants(alloc, text, release.switches())? {
                     Ok(grants) => Ok(Ok(GrantsBy::There(release, Some(grants)))),
                     Err(unread) => Ok(Err(Unreadable::There(release, unread.at))),
                 }
@@ -99,7 +100,7 @@ impl GrantsBy {
 }
 
 // The grants of a text, or none without one.
-fn grants_of(grants: &Option<release_rules::Grants>) -> &[Grant]
+fn grants_of(grants: &Option<release_grants::Grants>) -> &[Grant]
     ensures { result.now ≡ unwrap_or grants.now [] }
 {
     match grants {

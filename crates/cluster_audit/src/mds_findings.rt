@@ -8,7 +8,8 @@ use arrayvec::ArrayVec;
 use capbits::CapSet;
 use capgrant::{Access, Rules, caps_for};
 use policy_analysis::{MdsStanding, MdsWanted};
-use release_rules::{Grant, Release, Verdict};
+use release_grants::Grant;
+use release_rules::{Release, Verdict};
 use std::alloc::{AllocError, Global};
 
 /// What a client holds beyond its grants.

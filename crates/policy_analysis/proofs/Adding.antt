@@ -13,13 +13,13 @@ use Rattle.capgrant.specs.Access.{is_set_vxattr}
 use Rattle.capgrant.specs.Failing.{is_some_and}
 use Rattle.capgrant.specs.Question.{Question}
 use Rattle.capgrant.specs.Verdict.{allows}
-use Rattle.release_rules.specs.declared.grant.Grant.{Grant}
-use Rattle.release_rules.specs.declared.network.InNetwork.{InNetwork}
-use Rattle.release_rules.specs.declared.network.InNetwork.TheVariants.{No, Unknown, Yes}
-use Rattle.release_rules.specs.declared.release.Switches.{Switches}
+use Rattle.release_grants.specs.declared.grant.Grant.{Grant}
+use Rattle.release_grants.specs.declared.network.InNetwork.{InNetwork}
+use Rattle.release_grants.specs.declared.network.InNetwork.TheVariants.{No, Unknown, Yes}
+use Rattle.release_grants.specs.declared.switches.Switches.{Switches}
 use Rattle.release_rules.specs.Failing.{fails_fsname, fails_no_p, is_for_other_fs}
-use Rattle.release_rules.specs.Flags.{has_p}
-use Rattle.release_rules.specs.Networks.{in_network, is_no}
+use Rattle.release_grants.specs.Flags.{has_p}
+use Rattle.release_grants.specs.Networks.{in_network, is_no}
 use Rattle.release_rules.specs.Verdicts.{is_for_everything, lets_mount, may_allow, may_mount}
 use Rattle.policy_analysis.specs.ComparingBy.{CanBeAsked, Terms, put_to}
 use Rattle.policy_analysis.specs.Oddities.{has_large_uid, has_two_slashes}

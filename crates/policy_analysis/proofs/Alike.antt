@@ -3,13 +3,13 @@ use Rattle.std.proofs.Common.{◌≡◌, ℕ, zero, suc, Some, None, List, [], �
 use Rattle.std.specs.Prelude.{Ok, bytes_eq, if◌then◌else◌}
 use Rattle.byte_sets.specs.Sets.{is_any_white}
 use Rattle.capspec.specs.Words.{rest_while}
-use Rattle.release_rules.specs.declared.grant.Grant.{Grant}
+use Rattle.release_grants.specs.declared.grant.Grant.{Grant}
 use Rattle.release_rules.specs.declared.release.Release.TheVariants.{Reef, Tentacle}
-use Rattle.release_rules.specs.declared.release.Switches.{Switches}
+use Rattle.release_grants.specs.declared.switches.Switches.{Switches}
 use Rattle.release_rules.specs.Failing.{user_of}
-use Rattle.release_rules.specs.Reading.{grant_at, grants_behind, more_grants, next_grant, plain_allow, read_of, whole}
+use Rattle.release_grants.specs.Reading.{grant_at, grants_behind, more_grants, next_grant, plain_allow, read_of, whole}
 use Rattle.release_rules.specs.Releases.{switches_of}
-use Rattle.release_rules.specs.Texts.{Found, if_found}
+use Rattle.release_grants.specs.Texts.{Found, if_found}
 use Rattle.policy_analysis.specs.declared.oddity.Oddity.{Oddity}
 use Rattle.policy_analysis.specs.declared.oddity.Oddity.TheVariants.{CommandsMds, GidsAlone, LargeUid, NoNetwork, TwoSlashes, ZeroUid}
 use Rattle.policy_analysis.specs.Oddities.{is_odd}

@@ -5,7 +5,7 @@ use Rattle.capspec.specs.declared.grant.Grant.{Grant as OwnGrant}
 use Rattle.capspec.specs.Paths.{is_name}
 use Rattle.capgrant.specs.Access.{is_set_vxattr}
 use Rattle.capgrant.specs.Question.{Question}
-use Rattle.release_rules.specs.declared.grant.Grant.{Grant}
+use Rattle.release_grants.specs.declared.grant.Grant.{Grant}
 use Rattle.release_rules.specs.Verdicts.{allows, first_failures, may_allow, may_mount, verdict_at}
 use Rattle.release_rules.specs.declared.verdict.Verdict.{Verdict}
 use Rattle.release_rules.specs.declared.verdict.Verdict.TheVariants.{CannotMount}

@@ -16,8 +16,8 @@ use Rattle.capspec.proofs.OneText.{is_as_it_stands, name_has_bytes, names-append
 use Rattle.capspec.proofs.Paths.{has_bytes, names_of-slashes}
 use Rattle.capspec.proofs.Slashed.{names_of_slashed}
 use Rattle.capgrant.specs.Failing.{is_some_and}
-use Rattle.release_rules.specs.declared.release.Switches.{Switches}
-use Rattle.release_rules.specs.Paths.{directory_of, ends_in_slash, ends_name, is_slash, lies_in, path_text, unless_last_slash, without_first_slashes, without_last_slashes}
+use Rattle.release_grants.specs.declared.switches.Switches.{Switches}
+use Rattle.release_grants.specs.Paths.{directory_of, ends_in_slash, ends_name, is_slash, lies_in, path_text, unless_last_slash, without_first_slashes, without_last_slashes}
 use Rattle.policy_analysis.proofs.Rules.{above, below}
 
 -- ---- of lists and tests

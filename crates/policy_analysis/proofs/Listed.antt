@@ -5,8 +5,8 @@ use Rattle.std.proofs.lemmas.List.{append-nil, drop_more, get_or-map, get_or_def
 use Rattle.std.proofs.lemmas.List.Elements.{filter-append}
 use Rattle.capbits.specs.declared.caller.Caller.{Caller}
 use Rattle.capgrant.specs.declared.access.Attr.{Attr}
-use Rattle.release_rules.specs.declared.grant.Grant.{Grant}
-use Rattle.release_rules.specs.declared.release.Switches.{Switches}
+use Rattle.release_grants.specs.declared.grant.Grant.{Grant}
+use Rattle.release_grants.specs.declared.switches.Switches.{Switches}
 use Rattle.policy_analysis.specs.declared.oddity.OddGrant.{OddGrant}
 use Rattle.policy_analysis.specs.declared.oddity.Oddity.{Oddity}
 use Rattle.policy_analysis.specs.Oddities.{all_oddities, is_odd, odd, oddities, oddities_from, oddities_of}

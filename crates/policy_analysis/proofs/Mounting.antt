@@ -8,8 +8,8 @@ use Rattle.capspec.specs.declared.grant.Grant.{Grant as OwnGrant}
 use Rattle.capgrant.specs.Access.{is_set_vxattr}
 use Rattle.capgrant.specs.Failing.{is_some_and}
 use Rattle.capgrant.specs.Question.{Question}
-use Rattle.release_rules.specs.declared.grant.Grant.{Grant}
-use Rattle.release_rules.specs.declared.release.Switches.{Switches}
+use Rattle.release_grants.specs.declared.grant.Grant.{Grant}
+use Rattle.release_grants.specs.declared.switches.Switches.{Switches}
 use Rattle.policy_analysis.specs.ComparingBy.{CanBeAsked, Terms}
 use Rattle.policy_analysis.specs.StandIns.{Adds, StandInFor, is_on, mounts_each, names, one_allows, say}
 use Rattle.policy_analysis.proofs.Adding.{any_more, each_mounts, named_mounts}

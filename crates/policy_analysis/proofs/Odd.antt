@@ -11,14 +11,14 @@ use Rattle.capbits.specs.declared.caller.Caller.{Caller}
 use Rattle.capspec.specs.Paths.{has_double_slash, is_name, slashed}
 use Rattle.capspec.specs.Words.{rest_while}
 use Rattle.capgrant.specs.Failing.{is_some_and}
-use Rattle.release_rules.specs.declared.grant.Grant.{Grant}
-use Rattle.release_rules.specs.declared.release.Switches.{Switches}
+use Rattle.release_grants.specs.declared.grant.Grant.{Grant}
+use Rattle.release_grants.specs.declared.switches.Switches.{Switches}
 use Rattle.release_rules.specs.declared.rule.Rule.{Rule}
 use Rattle.release_rules.specs.declared.rule.Rule.TheVariants as rule
 use Rattle.release_rules.specs.Failing.{fails, fails_fsname, fails_gids, fails_mode_bits, fails_network, fails_no_f, fails_no_p, fails_no_s, fails_no_write}
 use Rattle.release_rules.specs.Failing.{fails_not_own_group, fails_not_owner, fails_path, fails_root_squash, fails_uid, first_failing, is_user, is_zero, user_of}
-use Rattle.release_rules.specs.Networks.{Address, Network, by_network, in_network, is_no, network_in}
-use Rattle.release_rules.specs.Paths.{directory_of, is_slash, lies_in, path_text}
+use Rattle.release_grants.specs.Networks.{Address, Network, by_network, in_network, is_no, network_in}
+use Rattle.release_grants.specs.Paths.{directory_of, is_slash, lies_in, path_text}
 use Rattle.release_rules.specs.Question.{Question}
 use Rattle.release_rules.specs.Rules.{all_rules}
 use Rattle.release_rules.specs.Verdicts.{is_for_everything, lets_mount, may_allow}

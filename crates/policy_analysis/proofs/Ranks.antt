@@ -5,10 +5,10 @@ use Rattle.std.specs.List.{list_any, position_or_len}
 use Rattle.std.proofs.lemmas.Bool.{and_parts, and_right, both_ways, false≢true, or_right}
 use Rattle.capgrant.specs.Question.{Question}
 use Rattle.capgrant.proofs.Verdicts.{any_place}
-use Rattle.release_rules.specs.declared.grant.Grant.{Grant}
-use Rattle.release_rules.specs.declared.network.InNetwork.{InNetwork}
-use Rattle.release_rules.specs.declared.network.InNetwork.TheVariants.{No, Unknown, Yes}
-use Rattle.release_rules.specs.Networks.{in_network, is_no, is_unknown}
+use Rattle.release_grants.specs.declared.grant.Grant.{Grant}
+use Rattle.release_grants.specs.declared.network.InNetwork.{InNetwork}
+use Rattle.release_grants.specs.declared.network.InNetwork.TheVariants.{No, Unknown, Yes}
+use Rattle.release_grants.specs.Networks.{in_network, is_no, is_unknown}
 use Rattle.release_rules.specs.Verdicts.{allows, may_allow, may_mount}
 use Rattle.policy_analysis.specs.ComparingBy.{Terms, put_to, rank, said}
 use Rattle.policy_analysis.specs.StandIns.{is_allowed_there, plays}

@@ -18,16 +18,16 @@ use Rattle.capgrant.specs.Failing.{fails_no_s as own_no_s, fails_no_write as own
 use Rattle.capgrant.specs.Failing.{fails_path as own_path, fails_root_squash as own_root_squash, fails_uid as own_uid, first_failing as own_first, is_some_and}
 use Rattle.capgrant.specs.Question.{Question, listed_gids}
 use Rattle.capgrant.specs.Verdict.{allows}
-use Rattle.release_rules.specs.declared.flags.Flags.{Flags}
-use Rattle.release_rules.specs.declared.grant.Grant.{Grant}
-use Rattle.release_rules.specs.declared.release.Switches.{Switches}
+use Rattle.release_grants.specs.declared.flags.Flags.{Flags}
+use Rattle.release_grants.specs.declared.grant.Grant.{Grant}
+use Rattle.release_grants.specs.declared.switches.Switches.{Switches}
 use Rattle.release_rules.specs.declared.rule.Rule.{Rule}
 use Rattle.release_rules.specs.declared.rule.Rule.TheVariants as rule
 use Rattle.release_rules.specs.Failing.{fails, fails_fsname, fails_gids, fails_mode_bits, fails_network, fails_no_f, fails_no_p, fails_no_s, fails_no_write}
 use Rattle.release_rules.specs.Failing.{fails_not_own_group, fails_not_owner, fails_path, fails_root_squash, fails_uid, is_zero, user_of}
-use Rattle.release_rules.specs.Flags.{has_p as has_p_there, has_s as has_s_there, has_w as has_w_there}
-use Rattle.release_rules.specs.Networks.{in_network, is_no}
-use Rattle.release_rules.specs.Paths.{directory_of, ends_in_slash, lies_in, path_text}
+use Rattle.release_grants.specs.Flags.{has_p as has_p_there, has_s as has_s_there, has_w as has_w_there}
+use Rattle.release_grants.specs.Networks.{in_network, is_no}
+use Rattle.release_grants.specs.Paths.{directory_of, ends_in_slash, lies_in, path_text}
 use Rattle.release_rules.specs.Question.{is_own_group}
 use Rattle.release_rules.specs.Verdicts.{may_allow}
 use Rattle.policy_analysis.specs.ComparingBy.{CanBeAsked, Terms, put_to}

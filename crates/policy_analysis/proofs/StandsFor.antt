@@ -20,12 +20,12 @@ use Rattle.capgrant.specs.Question.{Question as OwnQuestion, contains, listed_gi
 use Rattle.capgrant.specs.Rule.{all_rules as own_rules}
 use Rattle.capgrant.specs.Verdict.{allows, granted}
 use Rattle.capgrant.proofs.Listed.{contains_listed, length_listed}
-use Rattle.release_rules.specs.declared.grant.Grant.{Grant}
-use Rattle.release_rules.specs.declared.release.Switches.{Switches}
+use Rattle.release_grants.specs.declared.grant.Grant.{Grant}
+use Rattle.release_grants.specs.declared.switches.Switches.{Switches}
 use Rattle.release_rules.specs.Failing.{fails, fails_fsname, fails_gids, fails_mode_bits, fails_network, fails_no_f, fails_no_p, fails_no_s, fails_no_write}
 use Rattle.release_rules.specs.Failing.{fails_not_own_group, fails_not_owner, fails_path, fails_root_squash, fails_uid, first_failing, is_root, is_user, user_of}
-use Rattle.release_rules.specs.Flags.{has_p as has_p_there, has_w as has_w_there}
-use Rattle.release_rules.specs.Networks.{in_network, is_no, is_unknown}
+use Rattle.release_grants.specs.Flags.{has_p as has_p_there, has_w as has_w_there}
+use Rattle.release_grants.specs.Networks.{in_network, is_no, is_unknown}
 use Rattle.release_rules.specs.Question.{Question, is_in_groups, is_own_group}
 use Rattle.release_rules.specs.Rules.{all_rules}
 use Rattle.release_rules.specs.Verdicts.{allows as allows_there, may_allow}

@@ -2,13 +2,13 @@
 use Rattle.std.specs.Prelude.{ℕ, Option, Some, None, Result, Ok, Err, List}
 use Rattle.capgrant.specs.declared.access.Access.{Access}
 use Rattle.release_rules.specs.declared.beside.Otherwise.{Otherwise}
-use Rattle.release_rules.specs.declared.grant.Grant.{Grant}
-use Rattle.release_rules.specs.declared.reading.Unread.{Unread}
-use Rattle.release_rules.specs.declared.release.Switches.{Switches}
+use Rattle.release_grants.specs.declared.grant.Grant.{Grant}
+use Rattle.release_grants.specs.declared.reading.Unread.{Unread}
+use Rattle.release_grants.specs.declared.switches.Switches.{Switches}
 use Rattle.release_rules.specs.declared.verdict.Verdict.{Verdict}
 use Rattle.release_rules.specs.declared.verdict.Verdict.TheVariants as mds
 use Rattle.release_rules.specs.Beside.{allowed_there, denied_there}
-use Rattle.release_rules.specs.Reading.{read_of}
+use Rattle.release_grants.specs.Reading.{read_of}
 use Rattle.policy_analysis.specs.declared.standing.Standing.{Standing}
 use Rattle.policy_analysis.specs.declared.standing.Standing.TheVariants as here
 use Rattle.policy_analysis.specs.MdsStanding.{MdsWanted, standing_by, switches}

@@ -7,12 +7,12 @@ use Rattle.capgrant.specs.declared.access.Access.{Access}
 use Rattle.capgrant.specs.declared.access.Access.TheVariants.{Chgrp}
 use Rattle.capgrant.specs.declared.access.Attr.{Attr}
 use Rattle.capgrant.specs.Question.{Question, contains}
-use Rattle.release_rules.specs.declared.grant.Grant.{Grant}
-use Rattle.release_rules.specs.declared.release.Switches.{Switches}
+use Rattle.release_grants.specs.declared.grant.Grant.{Grant}
+use Rattle.release_grants.specs.declared.switches.Switches.{Switches}
 use Rattle.release_rules.specs.declared.verdict.Verdict.{Verdict}
 use Rattle.release_rules.specs.declared.verdict.Verdict.TheVariants.{Allowed, DependsOnAddress}
 use Rattle.release_rules.specs.Asked.{asked_for}
-use Rattle.release_rules.specs.Networks.{Address, address_of, in_network, is_unknown}
+use Rattle.release_grants.specs.Networks.{Address, address_of, in_network, is_unknown}
 use Rattle.release_rules.specs.Question.{Question as AskedThere, is_in_groups}
 use Rattle.release_rules.specs.Verdicts.{verdict_of}
 use Rattle.policy_analysis.specs.Comparing.{is_root, question_of}

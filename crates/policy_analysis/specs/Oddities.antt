@@ -2,11 +2,11 @@
 use Rattle.std.specs.Prelude.{ℕ, ◌+◌, nat_le, Bool, not, ◌&&◌, ◌==◌, None, is_none, is_some, List, [], ◌∷◌, ◌++◌, length, map, filter}
 use Rattle.capspec.specs.Paths.{has_double_slash}
 use Rattle.capgrant.specs.Failing.{is_some_and}
-use Rattle.release_rules.specs.declared.grant.Grant.{Grant}
-use Rattle.release_rules.specs.declared.release.Switches.{Switches}
+use Rattle.release_grants.specs.declared.grant.Grant.{Grant}
+use Rattle.release_grants.specs.declared.switches.Switches.{Switches}
 use Rattle.release_rules.specs.Failing.{is_zero}
-use Rattle.release_rules.specs.Networks.{network_in}
-use Rattle.release_rules.specs.Paths.{directory_of}
+use Rattle.release_grants.specs.Networks.{network_in}
+use Rattle.release_grants.specs.Paths.{directory_of}
 use Rattle.release_rules.specs.Verdicts.{is_for_everything}
 use Rattle.policy_analysis.specs.declared.oddity.OddGrant.{OddGrant}
 use Rattle.policy_analysis.specs.declared.oddity.Oddity.{Oddity}

@@ -5,14 +5,14 @@ use Rattle.capspec.specs.Names.{IsFsName}
 use Rattle.capspec.specs.Paths.{names_of}
 use Rattle.capgrant.specs.declared.access.Access.TheVariants.{Chmod}
 use Rattle.capgrant.specs.declared.access.Attr.{Attr}
-use Rattle.release_rules.specs.declared.grant.Grant.{Grant}
+use Rattle.release_grants.specs.declared.grant.Grant.{Grant}
 use Rattle.release_rules.specs.declared.release.Release.{Release}
 use Rattle.release_rules.specs.declared.release.Release.TheVariants.{Reef, Tentacle}
-use Rattle.release_rules.specs.declared.release.Switches.{Switches}
+use Rattle.release_grants.specs.declared.switches.Switches.{Switches}
 use Rattle.release_rules.specs.Asked.{asked_for}
 use Rattle.release_rules.specs.Clients.{client_refuses}
 use Rattle.release_rules.specs.Failing.{user_of}
-use Rattle.release_rules.specs.Flags.{has_w}
+use Rattle.release_grants.specs.Flags.{has_w}
 use Rattle.release_rules.specs.Question.{Question}
 use Rattle.release_rules.specs.Releases.{switches_of}
 use Rattle.release_rules.specs.Verdicts.{is_allowed, verdict_of}

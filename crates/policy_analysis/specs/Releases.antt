@@ -1,7 +1,7 @@
 -- Of which releases something is told.
 use Rattle.std.specs.Prelude.{ℕ, List, [], ◌∷◌, codes}
 use Rattle.release_rules.specs.declared.release.Release.TheVariants.{Pacific, Reef, Tentacle}
-use Rattle.release_rules.specs.declared.release.Switches.{Switches}
+use Rattle.release_grants.specs.declared.switches.Switches.{Switches}
 use Rattle.release_rules.specs.Releases.{switches_of}
 use Rattle.policy_analysis.specs.declared.releases.Releases.{Releases}
 use Rattle.policy_analysis.specs.declared.releases.Releases.TheVariants.{One, Today}

@@ -12,15 +12,15 @@ use Rattle.capgrant.specs.Access.{is_set_vxattr}
 use Rattle.capgrant.specs.Failing.{is_some_and}
 use Rattle.capgrant.specs.Question.{Question}
 use Rattle.capgrant.specs.Verdict.{allows}
-use Rattle.release_rules.specs.declared.flags.Flags.{Flags}
-use Rattle.release_rules.specs.declared.grant.Grant.{Grant}
-use Rattle.release_rules.specs.declared.network.InNetwork.{InNetwork}
-use Rattle.release_rules.specs.declared.network.InNetwork.TheVariants.{No, Unknown, Yes}
-use Rattle.release_rules.specs.declared.release.Switches.{Switches}
+use Rattle.release_grants.specs.declared.flags.Flags.{Flags}
+use Rattle.release_grants.specs.declared.grant.Grant.{Grant}
+use Rattle.release_grants.specs.declared.network.InNetwork.{InNetwork}
+use Rattle.release_grants.specs.declared.network.InNetwork.TheVariants.{No, Unknown, Yes}
+use Rattle.release_grants.specs.declared.switches.Switches.{Switches}
 use Rattle.release_rules.specs.Failing.{has_user, user_of}
-use Rattle.release_rules.specs.Flags.{has_p, has_s, has_w}
-use Rattle.release_rules.specs.Networks.{address_of, in_network}
-use Rattle.release_rules.specs.Paths.{directory_of, ends_in_slash}
+use Rattle.release_grants.specs.Flags.{has_p, has_s, has_w}
+use Rattle.release_grants.specs.Networks.{address_of, in_network}
+use Rattle.release_grants.specs.Paths.{directory_of, ends_in_slash}
 use Rattle.release_rules.specs.Verdicts.{is_for_everything, may_allow, may_mount}
 use Rattle.policy_analysis.specs.declared.witness.Witness.{Witness}
 use Rattle.policy_analysis.specs.Comparing.{is_root, question_of}

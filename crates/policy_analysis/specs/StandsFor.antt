@@ -12,12 +12,12 @@ use Rattle.capgrant.specs.declared.access.Attr.{Attr}
 use Rattle.capgrant.specs.Failing.{is_some_and}
 use Rattle.capgrant.specs.Question.{contains, question}
 use Rattle.capgrant.specs.Verdict.{allows, granted}
-use Rattle.release_rules.specs.declared.grant.Grant.{Grant}
-use Rattle.release_rules.specs.declared.release.Switches.{Switches}
+use Rattle.release_grants.specs.declared.grant.Grant.{Grant}
+use Rattle.release_grants.specs.declared.switches.Switches.{Switches}
 use Rattle.release_rules.specs.Asked.{asked_for}
 use Rattle.release_rules.specs.Failing.{has_user, user_of}
-use Rattle.release_rules.specs.Flags.{has_p as has_p_there, has_s as has_s_there, has_w as has_w_there}
-use Rattle.release_rules.specs.Paths.{directory_of, lies_in, path_text}
+use Rattle.release_grants.specs.Flags.{has_p as has_p_there, has_s as has_s_there, has_w as has_w_there}
+use Rattle.release_grants.specs.Paths.{directory_of, lies_in, path_text}
 use Rattle.release_rules.specs.Question.{Question, is_in_groups}
 use Rattle.release_rules.specs.Verdicts.{allows as allows_there, may_allow}
 

@@ -6,9 +6,8 @@ ghost use Rattle.policy_analysis.specs.BesideStanding.{beside_standing, other_of
 use crate::mds_standing::MdsWanted;
 use crate::standing::Standing;
 use capgrant::Access;
-use release_rules::{
-    Grant, Otherwise, Switches, Verdict, allowed_there, denied_there, read_grants,
-};
+use release_grants::{Grant, Switches, read_grants};
+use release_rules::{Otherwise, Verdict, allowed_there, denied_there};
 use std::alloc::{AllocError, Global};
 
 impl MdsWanted<'_> {

@@ -13,9 +13,8 @@ use arrayvec::ArrayVec;
 use capbits::{Caller, Groups};
 use capgrant::{Access, Attr};
 use capspec::Grant as OwnGrant;
-use release_rules::{
-    Asked, Grant, Grants, InNetwork, Question, Switches, Verdict, in_network, mds_verdict,
-};
+use release_grants::{Grant, Grants, InNetwork, Switches, in_network};
+use release_rules::{Asked, Question, Verdict, mds_verdict};
 use std::alloc::{AllocError, Global};
 use std::marker::Model;
 use std::net::IpAddr;

@@ -10,9 +10,10 @@ use crate::callers::beside;
 use capbits::Caller;
 use capgrant::{Access, Attr};
 use capspec::{FsName, TreePath};
+use release_grants::{Grant, Switches};
 use release_rules::{
-    Asked, Grant, Question, Release, Rule, Rules, Switches, Verdict, changes_attributes,
-    client_refuses, may_mount, user_of,
+    Asked, Question, Release, Rule, Rules, Verdict, changes_attributes, client_refuses, may_mount,
+    user_of,
 };
 use std::alloc::{AllocError, Global};
 use std::marker::Model;

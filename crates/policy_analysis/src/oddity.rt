@@ -5,7 +5,8 @@ ghost use Rattle.capspec.specs.Paths.{has_double_slash};
 ghost use Rattle.policy_analysis.specs.Oddities.{commands_mds, has_gids_alone, has_large_uid, has_no_network, has_two_slashes, has_zero_uid, oddities};
 ghost use Rattle.policy_analysis.specs.Oddities.{oddities_of};
 
-use release_rules::{Grant, Switches, directory_of, is_for_everything, writes_network};
+use release_grants::{Grant, Switches, directory_of, writes_network};
+use release_rules::is_for_everything;
 use std::alloc::{AllocError, Global};
 
 /// What is odd in a grant.

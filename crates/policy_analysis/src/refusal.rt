@@ -13,9 +13,8 @@ use crate::witness::Witness;
 use capbits::Caller;
 use capgrant::{Access, Attr};
 use capspec::{FsName, TreePath};
-use release_rules::{
-    Asked, Grant, Question, Release, Switches, client_refuses, mds_verdict, user_of,
-};
+use release_grants::{Grant, Switches};
+use release_rules::{Asked, Question, Release, client_refuses, mds_verdict, user_of};
 use std::alloc::{AllocError, Global};
 use std::slice::from_ref;
 

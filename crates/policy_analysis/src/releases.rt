@@ -1,6 +1,7 @@
 //! Of which releases of Ceph something is told.
 
-use release_rules::{Release, Switches};
+use release_grants::Switches;
+use release_rules::Release;
 
 /// Of which releases something is told.
 #[derive(Clone, Copy)]

@@ -3,17 +3,16 @@
 ghost use Rattle.std.specs.Prelude.{◌≡◌, ◌≤◌, ◌<◌, ◌+◌, ◌⊎◌, ◌++◌, ◌∷◌, [], ℕ, List, Option, Some, IsTrue, false, true, is_some, length, option_map, IfErr, IfNone, IfOk, IfSome, OnOk, if◌then◌else◌};
 ghost use Rattle.std.specs.List.{list_any};
 ghost use Rattle.capgrant.specs.Failing.{is_some_and};
-ghost use Rattle.release_rules.specs.Networks.{address_of, in_network};
-ghost use Rattle.release_rules.specs.Paths.{directory_of, ends_in_slash};
+ghost use Rattle.release_grants.specs.Networks.{address_of, in_network};
+ghost use Rattle.release_grants.specs.Paths.{directory_of, ends_in_slash};
 ghost use Rattle.policy_analysis.specs.declared.stand_ins.NotCompared.TheVariants.{NoMemory, TooLarge};
 ghost use Rattle.policy_analysis.specs.StandIns.{Adds, IsStandIn, IsWhyNone, IsWhyNot, IsWhyNotAdded, StandInFor, allowing, allows_something, flags_for, mounts_each, names, names_for, plays, terms_in};
 
 use crate::oddity::{has_large_uid, has_two_slashes};
 use arrayvec::ArrayVec;
 use capspec::{Flags4, FsName, Gids, Grant as OwnGrant, TreePath};
-use release_rules::{
-    Flags, Grant, InNetwork, Switches, directory_of, in_network, is_for_everything, user_of,
-};
+use release_grants::{Flags, Grant, InNetwork, Switches, directory_of, in_network};
+use release_rules::{is_for_everything, user_of};
 use std::alloc::{AllocError, AllocFailed, Global};
 use std::net::IpAddr;
 

@@ -3,7 +3,7 @@ use Rattle.std.proofs.Common.{◌≡◌, ℕ, List, Option, None, Some, subst, s
 use Rattle.std.specs.Prelude.{option_map}
 use Rattle.std.specs.Global.{Vec}
 use Rattle.std.specs.declared.net.ip_addr.IpAddr.{IpAddr}
-use Rattle.release_rules.specs.Networks.{address_in, address_of}
+use Rattle.release_grants.specs.Networks.{address_in, address_of}
 use Rattle.queries.specs.Values.{IsAddressIf}
 
 module _ (given : Option (Vec ℕ)) (text : Vec ℕ) (bytes : List ℕ) (read : Option IpAddr) where

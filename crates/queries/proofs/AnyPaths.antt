@@ -8,7 +8,7 @@ use Rattle.std.proofs.lemmas.List.{append_cancel_left, drop_all, drop_more}
 use Rattle.capspec.specs.declared.grant.Grant.{Grant}
 use Rattle.capgrant.specs.declared.answer.Verdict.{Verdict}
 use Rattle.capgrant.specs.declared.answer.Verdict.TheVariants.{Allowed, Denied}
-use Rattle.release_rules.specs.declared.grant.Grant.{Grant as MdsGrant}
+use Rattle.release_grants.specs.declared.grant.Grant.{Grant as MdsGrant}
 use Rattle.release_rules.specs.declared.verdict.Verdict.{Verdict as MdsVerdict}
 use Rattle.release_rules.specs.declared.verdict.Verdict.TheVariants as mds
 use Rattle.texts.specs.declared.mds_asked.MdsAccess.{MdsAccess}

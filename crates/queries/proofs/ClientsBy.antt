@@ -2,9 +2,9 @@
 use Rattle.std.proofs.Common.{◌≡◌, ℕ, Bool, true, false, Option, Some, List, ◌++◌, refl, ap, subst, ◌∙◌}
 use Rattle.std.specs.Prelude.{Err, Ok, Result}
 use Rattle.policy_analysis.specs.MdsStanding.{MdsWanted, standing_by, switches}
-use Rattle.release_rules.specs.declared.grant.Grant.{Grant}
-use Rattle.release_rules.specs.declared.reading.Unread.{Unread}
-use Rattle.release_rules.specs.Reading.{read_of}
+use Rattle.release_grants.specs.declared.grant.Grant.{Grant}
+use Rattle.release_grants.specs.declared.reading.Unread.{Unread}
+use Rattle.release_grants.specs.Reading.{read_of}
 use Rattle.queries.specs.declared.clients.Telling.{Telling}
 use Rattle.queries.specs.ClientsBy.{SaysBy, SaysOf, mds_standing_in, mds_unread_in}
 

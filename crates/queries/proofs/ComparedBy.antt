@@ -3,10 +3,10 @@ use Rattle.std.proofs.Common.{◌≡◌, ℕ, Option, Some, None, List, subst, a
 use Rattle.std.specs.Prelude.{IfSome, IsTrue, MatchOption, option_map}
 use Rattle.std.specs.Global.{Vec}
 use Rattle.std.specs.declared.net.ip_addr.IpAddr.{IpAddr}
-use Rattle.release_rules.specs.declared.grant.Grant.{Grant}
+use Rattle.release_grants.specs.declared.grant.Grant.{Grant}
 use Rattle.release_rules.specs.declared.release.Release.{Release}
-use Rattle.release_rules.specs.declared.release.Switches.{Switches}
-use Rattle.release_rules.specs.Networks.{address_of}
+use Rattle.release_grants.specs.declared.switches.Switches.{Switches}
+use Rattle.release_grants.specs.Networks.{address_of}
 use Rattle.release_rules.specs.Releases.{switches_of}
 use Rattle.policy_analysis.specs.declared.compare_by.Change.{Change}
 use Rattle.policy_analysis.specs.Comparing.{is_root}

@@ -11,15 +11,15 @@ use Rattle.policy_analysis.specs.declared.standing.Standing.TheVariants as here
 use Rattle.policy_analysis.specs.BesideStanding.{beside_read, beside_standing, other_of}
 use Rattle.policy_analysis.specs.Callers.{Wanted}
 use Rattle.policy_analysis.specs.MdsStanding.{MdsWanted, at_place, by_place, is_by_address, is_sure, lets_in, nobody, standing_by, switches}
-use Rattle.release_rules.specs.declared.grant.Grant.{Grant}
-use Rattle.release_rules.specs.declared.reading.Unread.{Unread}
+use Rattle.release_grants.specs.declared.grant.Grant.{Grant}
+use Rattle.release_grants.specs.declared.reading.Unread.{Unread}
 use Rattle.release_rules.specs.declared.release.Release.TheVariants.{Pacific, Reef, Tentacle}
-use Rattle.release_rules.specs.declared.release.Switches.{Switches}
+use Rattle.release_grants.specs.declared.switches.Switches.{Switches}
 use Rattle.release_rules.specs.declared.verdict.Verdict.{Verdict}
 use Rattle.release_rules.specs.declared.verdict.Verdict.TheVariants as mds
-use Rattle.release_rules.specs.Reading.{read_of}
+use Rattle.release_grants.specs.Reading.{read_of}
 use Rattle.release_rules.specs.Verdicts.{may_mount}
-use Rattle.release_rules.proofs.FewRead.{AreFew, few_read}
+use Rattle.release_grants.proofs.FewRead.{AreFew, few_read}
 use Rattle.texts.specs.Lines.{HasGrantIf}
 use Rattle.texts.specs.MdsTold.{AreCounted, HasMdsGrant, IsCounted}
 use Rattle.queries.specs.declared.clients.Telling.{Telling}

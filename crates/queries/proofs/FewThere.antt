@@ -7,19 +7,19 @@ use Rattle.capgrant.specs.declared.access.Access.{Access}
 use Rattle.capgrant.specs.declared.answer.Verdict.{Verdict as Answer}
 use Rattle.capgrant.specs.declared.answer.Verdict.TheVariants as here
 use Rattle.policy_analysis.specs.Left.{left_to_client}
-use Rattle.release_rules.specs.declared.grant.Grant.{Grant}
-use Rattle.release_rules.specs.declared.reading.Unread.{Unread}
+use Rattle.release_grants.specs.declared.grant.Grant.{Grant}
+use Rattle.release_grants.specs.declared.reading.Unread.{Unread}
 use Rattle.release_rules.specs.declared.release.Release.{Release}
 use Rattle.release_rules.specs.declared.release.Release.TheVariants.{Pacific, Reef, Tentacle}
-use Rattle.release_rules.specs.declared.release.Switches.{Switches}
+use Rattle.release_grants.specs.declared.switches.Switches.{Switches}
 use Rattle.release_rules.specs.declared.verdict.Verdict.{Verdict}
 use Rattle.release_rules.specs.declared.verdict.Verdict.TheVariants as mds
 use Rattle.release_rules.specs.Beside.{beside, beside_read, other_of}
 use Rattle.release_rules.specs.Question.{Question as MdsQuestion}
-use Rattle.release_rules.specs.Reading.{read_of}
+use Rattle.release_grants.specs.Reading.{read_of}
 use Rattle.release_rules.specs.Releases.{switches_of}
 use Rattle.release_rules.specs.Verdicts.{allows, first_failures, may_allow, may_mount, verdict_at, verdict_of}
-use Rattle.release_rules.proofs.FewRead.{AreFew, few_read}
+use Rattle.release_grants.proofs.FewRead.{AreFew, few_read}
 use Rattle.texts.specs.Lines.{HasGrant}
 use Rattle.texts.specs.MdsTold.{AreBeside, HasMdsGrant, IsCounted}
 use Rattle.texts.specs.Remarked.{HasNumbers}

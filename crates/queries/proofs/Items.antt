@@ -21,7 +21,7 @@ use Rattle.capgrant.specs.Question.{Question as Asked}
 use Rattle.capgrant.specs.Verdict.{is_allowed}
 use Rattle.policy_analysis.specs.Left.{left_to_client}
 use Rattle.release_rules.specs.declared.beside.Others.{Others}
-use Rattle.release_rules.specs.declared.grant.Grant.{Grant}
+use Rattle.release_grants.specs.declared.grant.Grant.{Grant}
 use Rattle.release_rules.specs.declared.release.Release.{Release}
 use Rattle.release_rules.specs.declared.release.Release.TheVariants.{Pacific, Reef, Tentacle}
 use Rattle.release_rules.specs.declared.verdict.Verdict.{Verdict as MdsVerdict}
@@ -30,7 +30,7 @@ use Rattle.release_rules.specs.Clients.{client_refuses}
 use Rattle.release_rules.specs.Failing.{may_allow_somewhere}
 use Rattle.release_rules.specs.Releases.{switches_of, version_of}
 use Rattle.release_rules.specs.Verdicts.{is_allowed as mds_allows}
-use Rattle.release_rules.proofs.FewRead.{AreFew, few_read, near_read}
+use Rattle.release_grants.proofs.FewRead.{AreFew, few_read, near_read}
 use Rattle.texts.specs.Lines.{HasNumber}
 use Rattle.texts.specs.Quoting.{is_plain, quoted}
 use Rattle.texts.specs.declared.mds_asked.MdsAccess.{MdsAccess}

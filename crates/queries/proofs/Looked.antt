@@ -12,9 +12,9 @@ use Rattle.policy_analysis.specs.declared.refusal.Refusal.{Refusal}
 use Rattle.policy_analysis.specs.declared.releases.Releases.{Releases}
 use Rattle.texts.specs.Found.{Found}
 use Rattle.texts.specs.declared.shape.Shape.{Shape}
-use Rattle.release_rules.specs.declared.grant.Grant.{Grant as Given}
-use Rattle.release_rules.specs.declared.reading.Unread.{Unread as NotRead}
-use Rattle.release_rules.specs.Reading.{read_of}
+use Rattle.release_grants.specs.declared.grant.Grant.{Grant as Given}
+use Rattle.release_grants.specs.declared.reading.Unread.{Unread as NotRead}
+use Rattle.release_grants.specs.Reading.{read_of}
 use Rattle.policy_analysis.specs.Oddities.{oddities}
 use Rattle.policy_analysis.specs.Refusals.{AreRefusals}
 use Rattle.policy_analysis.specs.Releases.{switches_for}

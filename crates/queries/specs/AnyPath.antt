@@ -6,7 +6,7 @@ use Rattle.capgrant.specs.declared.access.Access.{Access}
 use Rattle.capgrant.specs.declared.answer.Verdict.{Verdict}
 use Rattle.capgrant.specs.declared.answer.Verdict.TheVariants.{Allowed, Denied}
 use Rattle.capgrant.specs.Verdict.{is_allowed}
-use Rattle.release_rules.specs.declared.grant.Grant.{Grant as MdsGrant}
+use Rattle.release_grants.specs.declared.grant.Grant.{Grant as MdsGrant}
 use Rattle.release_rules.specs.declared.release.Release.{Release}
 use Rattle.release_rules.specs.declared.verdict.Verdict.{Verdict as MdsVerdict}
 use Rattle.release_rules.specs.declared.verdict.Verdict.TheVariants as mds

@@ -4,11 +4,11 @@ use Rattle.capgrant.specs.declared.access.Attr.{Attr}
 use Rattle.policy_analysis.specs.declared.mds_standing.MdsStanding.{MdsStanding}
 use Rattle.policy_analysis.specs.Callers.{Wanted}
 use Rattle.policy_analysis.specs.MdsStanding.{MdsWanted, standing_by, switches}
-use Rattle.release_rules.specs.declared.grant.Grant.{Grant}
-use Rattle.release_rules.specs.declared.reading.Unread.{Unread}
+use Rattle.release_grants.specs.declared.grant.Grant.{Grant}
+use Rattle.release_grants.specs.declared.reading.Unread.{Unread}
 use Rattle.release_rules.specs.declared.release.Release.{Release}
-use Rattle.release_rules.specs.declared.release.Switches.{Switches}
-use Rattle.release_rules.specs.Reading.{read_of}
+use Rattle.release_grants.specs.declared.switches.Switches.{Switches}
+use Rattle.release_grants.specs.Reading.{read_of}
 use Rattle.texts.specs.MdsStandings.{mds_client_text, mds_standing_object, mds_unread_line, mds_unread_object}
 use Rattle.queries.specs.declared.clients.Telling.{Telling}
 use Rattle.queries.specs.declared.clients.Telling.TheVariants.{Line, More, Object}

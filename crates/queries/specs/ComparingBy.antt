@@ -2,10 +2,10 @@
 use Rattle.std.specs.Prelude.{◌≡◌, ⊤, ℕ, ◌&&◌, Option, option_map, MatchOption, IsTrue, List, Err, if◌then◌else◌}
 use Rattle.std.specs.Global.{Vec}
 use Rattle.std.specs.declared.net.ip_addr.IpAddr.{IpAddr}
-use Rattle.release_rules.specs.declared.grant.Grant.{Grant}
+use Rattle.release_grants.specs.declared.grant.Grant.{Grant}
 use Rattle.release_rules.specs.declared.release.Release.{Release}
-use Rattle.release_rules.specs.Networks.{address_of}
-use Rattle.release_rules.specs.Reading.{read_of}
+use Rattle.release_grants.specs.Networks.{address_of}
+use Rattle.release_grants.specs.Reading.{read_of}
 use Rattle.release_rules.specs.Releases.{switches_of}
 use Rattle.policy_analysis.specs.declared.compare_by.Change.{Change}
 use Rattle.policy_analysis.specs.Comparing.{is_root}

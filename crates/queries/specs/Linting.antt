@@ -3,10 +3,10 @@ use Rattle.std.specs.Prelude.{◌≡◌, ◌≢◌, ℕ, ◌+◌, Option, Some, 
 use Rattle.std.specs.List.{AllZip, flat_map}
 use Rattle.capspec.specs.declared.grant.Grant.{Grant}
 use Rattle.capspec.specs.Grants.{Reads}
-use Rattle.release_rules.specs.declared.grant.Grant.{Grant as Given}
-use Rattle.release_rules.specs.declared.reading.Unread.{Unread as NotRead}
+use Rattle.release_grants.specs.declared.grant.Grant.{Grant as Given}
+use Rattle.release_grants.specs.declared.reading.Unread.{Unread as NotRead}
 use Rattle.release_rules.specs.declared.release.Release.{Release}
-use Rattle.release_rules.specs.Reading.{read_of}
+use Rattle.release_grants.specs.Reading.{read_of}
 use Rattle.policy_analysis.specs.declared.unread.Unread.{Unread}
 use Rattle.policy_analysis.specs.Ceph16Syntax.{AreReported}
 use Rattle.policy_analysis.specs.declared.finding.Finding.{Finding}

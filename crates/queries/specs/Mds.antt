@@ -4,14 +4,14 @@ use Rattle.std.specs.Fmt.{decimal}
 use Rattle.capgrant.specs.Question.{Question as Asked}
 use Rattle.capgrant.specs.Question.{question}
 use Rattle.release_rules.specs.declared.asked.Asked.{Asked as AskedFor}
-use Rattle.release_rules.specs.declared.grant.Grant.{Grant}
+use Rattle.release_grants.specs.declared.grant.Grant.{Grant}
 use Rattle.release_rules.specs.declared.release.Release.{Release}
 use Rattle.release_rules.specs.declared.verdict.Verdict.{Verdict}
 use Rattle.release_rules.specs.declared.verdict.Verdict.TheVariants.{CannotMount}
 use Rattle.release_rules.specs.Clients.{client_refuses}
-use Rattle.release_rules.specs.Networks.{address_of}
+use Rattle.release_grants.specs.Networks.{address_of}
 use Rattle.release_rules.specs.Question.{Question}
-use Rattle.release_rules.specs.Reading.{read_of}
+use Rattle.release_grants.specs.Reading.{read_of}
 use Rattle.release_rules.specs.Releases.{switches_of, version_of}
 use Rattle.release_rules.specs.Verdicts.{verdict_of}
 use Rattle.texts.specs.declared.mds_asked.MdsAccess.{MdsAccess}

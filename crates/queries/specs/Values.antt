@@ -7,7 +7,7 @@ use Rattle.capspec.specs.Items.{IsNumber, is_comma}
 use Rattle.capspec.specs.Separated.{AreSeparated}
 use Rattle.capspec.specs.Names.{IsFsName}
 use Rattle.capspec.specs.Paths.{are_few_and_short, names_of}
-use Rattle.release_rules.specs.Networks.{address_in, address_of}
+use Rattle.release_grants.specs.Networks.{address_in, address_of}
 
 -- the text is the name of a file system
 pub record IsFs (text name : List ℕ) : Type 0 where

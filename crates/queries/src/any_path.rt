@@ -111,7 +111,7 @@ impl MdsAsking {
         &self,
         release: Release,
         at_root: &release_rules::Verdict,
-        grants: &[release_rules::Grant],
+        grants: &[release_grants::Grant],
     ) -> AnyPath
         ensures { result ≡ any_path_there at_root.now
             (position (may_allow_somewhere (switches_of release) (mds_question self.now.asking (asked_there self.now.access))) grants.now) }
@@ -125,7 +125,7 @@ impl MdsAsking {
     }
 
     // The first grant in whose directory it would be allowed.
-    fn somewhere_by(&self, release: Release, grants: &[release_rules::Grant]) -> AnyPath
+    fn somewhere_by(&self, release: Release, grants: &[release_grants::Grant]) -> AnyPath
         ensures { result ≡ at_place
             (position (may_allow_somewhere (switches_of release) (mds_question self.now.asking (asked_there self.now.access))) grants.now) }
     {

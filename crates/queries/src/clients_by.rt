@@ -6,7 +6,7 @@ ghost use Rattle.queries.specs.ClientsBy.{SaysBy, mds_standing_in, mds_unread_in
 use crate::clients::Telling;
 use ceph_input::Entity;
 use policy_analysis::MdsWanted;
-use release_rules::{Grant, read_grants};
+use release_grants::{Grant, read_grants};
 use std::alloc::AllocError;
 use texts::{
     print_mds_standing, print_mds_standing_object, print_mds_unread, print_mds_unread_object,

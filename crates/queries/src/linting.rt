@@ -11,7 +11,8 @@ use capspec::read_grants;
 use policy_analysis::{
     Finding, OddGrant, Refusal, Releases, Unread, lint, oddities, paths_of, refusals, unread_grants,
 };
-use release_rules::{Grant, Release};
+use release_grants::Grant;
+use release_rules::Release;
 use std::alloc::{AllocError, Global};
 use texts::{
     Shape, print_finding, print_finding_object, print_odd, print_odd_object, print_refusal,
@@ -88,7 +89,7 @@ fn print_today(lines: &mut Vec<u8>, text: &[u8], shape: Shape) -> Result<(), All
     ensures { OnOk result (AddsThings (AreToday text.now) shape lines.old.items lines.new.items) }
 {
     let alloc = *lines.allocator();
-    match release_rules::read_grants(alloc, text, Releases::Today.switches())? {
+    match release_grants::read_grants(alloc, text, Releases::Today.switches())? {
         Ok(grants) => print_by_releases(lines, Releases::Today, grants.as_slice(), shape),
         Err(_) => Ok(()),
     }

@@ -13,7 +13,8 @@ use crate::mds::{MdsAnswer, MdsAsking, MdsFault, NotRead, mds_grants};
 use crate::question::Asking;
 use crate::values::{fill, no_values};
 use capbits::print;
-use release_rules::{Grant, Release, Verdict};
+use release_grants::Grant;
+use release_rules::{Release, Verdict};
 use std::alloc::AllocError;
 use texts::MdsAccess;
 

@@ -5,9 +5,8 @@ ghost use Rattle.queries.specs.Mds.{IsMdsFault, MdsReads, mounts};
 use crate::fault::QuestionFault;
 use crate::mds_words::read_several;
 use crate::question::{Asking, Values};
-use release_rules::{
-    Asked, Grant, Grants, Question, Release, Verdict, client_refuses, mds_verdict, read_grants,
-};
+use release_grants::{Grant, Grants, read_grants};
+use release_rules::{Asked, Question, Release, Verdict, client_refuses, mds_verdict};
 use std::alloc::{AllocError, Global};
 use std::fmt;
 use texts::{MdsAccess, mds_lines, mds_object};

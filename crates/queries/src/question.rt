@@ -17,7 +17,7 @@ use crate::options::Opt;
 use capbits::{Caller, Groups, read_u32};
 use capgrant::{Access, Attr, Verdict, verdict};
 use capspec::{FsName, Grants, TreePath};
-use release_rules::read_address;
+use release_grants::read_address;
 use std::alloc::{AllocError, Global};
 use std::net::IpAddr;
 use texts::{explain_line, read_access};

@@ -1,18 +1,16 @@
 -- Steps of loops over the grants of a client.
-use Rattle.std.proofs.Common.{◌≡◌, ℕ, ◌+◌, ◌<◌, Option, Some, None, List, [], ◌∷◌, ◌++◌, length, map, take, drop, get_or, refl, sym, ap, ◌∙◌}
+use Rattle.std.proofs.Common.{◌≡◌, ℕ, ◌+◌, ◌<◌, Option, Some, None, List, [], ◌∷◌, ◌++◌, length, take, drop, get_or, refl, sym, ap, ◌∙◌}
 use Rattle.std.specs.List.{cons_option}
 use Rattle.std.specs.Option.{option_to_list}
-use Rattle.std.proofs.lemmas.List.{drop_more, map-append, take_more}
+use Rattle.std.proofs.lemmas.List.{drop_more, take_more}
 use Rattle.std.proofs.lemmas.List.Elements.{filter_map-append}
-use Rattle.capspec.specs.declared.grant.Grant.{Grant as OwnGrant}
-use Rattle.release_rules.specs.declared.grant.Grant.{Grant}
-use Rattle.release_rules.specs.declared.release.Switches.{Switches}
+use Rattle.release_grants.specs.declared.grant.Grant.{Grant}
+use Rattle.release_grants.specs.declared.switches.Switches.{Switches}
 use Rattle.release_rules.specs.declared.rule.Rule.{Rule}
 use Rattle.release_rules.specs.Clients.{decided, refused_behind}
 use Rattle.release_rules.specs.Failing.{first_failing}
 use Rattle.release_rules.specs.Question.{Question}
 use Rattle.release_rules.specs.Verdicts.{first_failures}
-use Rattle.release_rules.specs.Written.{as_there}
 
 -- ---- the rules that grants fail by
 
@@ -33,12 +31,3 @@ pub one_more_decides : (sw : Switches) (q : Question) (grants : List Grant) (i :
     → refused_behind sw q (i + 1) (decided sw q (i + 1) before g) (drop (i + 1) grants) ≡ refused_behind sw q i before (drop i grants)
 one_more_decides sw q grants i g before within is =
     sym (ap (refused_behind sw q i before) (drop_more grants i g within) ∙ ap (λ (x : Grant). refused_behind sw q (i + 1) (decided sw q (i + 1) before x) (drop (i + 1) grants)) (sym is))
-
--- ---- grants that this server read
-
-pub one_more_there : (grants : List OwnGrant) (i : ℕ) (g : OwnGrant) (owned : Grant) (before after : List Grant) → i < length grants → g ≡ get_or grants i g → owned ≡ as_there g
-    → before ≡ map as_there (take i grants) → after ≡ before ++ owned ∷ [] → after ≡ map as_there (take (i + 1) grants)
-one_more_there grants i g owned before after within is there so_far more =
-    more ∙ ap (λ (gs : List Grant). gs ++ owned ∷ []) so_far ∙ ap (λ (k : Grant). map as_there (take i grants) ++ k ∷ []) there
-    ∙ sym (map-append as_there (take i grants) (g ∷ []))
-    ∙ sym (ap (map as_there) (take_more grants i g within ∙ ap (λ (x : OwnGrant). take i grants ++ x ∷ []) (sym is)))

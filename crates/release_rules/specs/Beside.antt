@@ -11,18 +11,18 @@ use Rattle.release_rules.specs.declared.beside.Otherwise.{Otherwise}
 use Rattle.release_rules.specs.declared.beside.Others.{Others}
 use Rattle.release_rules.specs.declared.beside.Reason.{Reason}
 use Rattle.release_rules.specs.declared.beside.Reason.TheVariants.{AttributeByFlag, GroupsInOrder, LargeUid, ModeByBits, OtherFileSystem, OtherText, PathAsText, ZeroUid}
-use Rattle.release_rules.specs.declared.grant.Grant.{Grant}
-use Rattle.release_rules.specs.declared.reading.Unread.{Unread}
+use Rattle.release_grants.specs.declared.grant.Grant.{Grant}
+use Rattle.release_grants.specs.declared.reading.Unread.{Unread}
 use Rattle.release_rules.specs.declared.release.Release.{Release}
 use Rattle.release_rules.specs.declared.release.Release.TheVariants.{Pacific, Reef, Tentacle}
-use Rattle.release_rules.specs.declared.release.Switches.{Switches}
+use Rattle.release_grants.specs.declared.switches.Switches.{Switches}
 use Rattle.release_rules.specs.declared.rule.Rule.{Rule}
 use Rattle.release_rules.specs.declared.rule.Rule.TheVariants as there
 use Rattle.release_rules.specs.declared.verdict.Verdict.{Verdict}
 use Rattle.release_rules.specs.declared.verdict.Verdict.TheVariants as mds
 use Rattle.release_rules.specs.Failing.{is_zero}
 use Rattle.release_rules.specs.Question.{Question}
-use Rattle.release_rules.specs.Reading.{read_of}
+use Rattle.release_grants.specs.Reading.{read_of}
 use Rattle.release_rules.specs.Releases.{switches_of}
 use Rattle.release_rules.specs.Verdicts.{verdict_of}
 

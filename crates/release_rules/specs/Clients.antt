@@ -2,10 +2,10 @@
 use Rattle.std.specs.Prelude.{ℕ, ◌+◌, Bool, true, false, not, ◌&&◌, ◌||◌, Option, Some, None, List, [], ◌∷◌, if◌then◌else◌}
 use Rattle.capgrant.specs.declared.access.Access.{Access}
 use Rattle.capgrant.specs.declared.access.Access.TheVariants.{Read, SetVxattr, Snapshot}
-use Rattle.release_rules.specs.declared.grant.Grant.{Grant}
-use Rattle.release_rules.specs.declared.release.Switches.{Switches}
+use Rattle.release_grants.specs.declared.grant.Grant.{Grant}
+use Rattle.release_grants.specs.declared.switches.Switches.{Switches}
 use Rattle.release_rules.specs.Failing.{fails_fsname, fails_gids, fails_path, fails_uid, is_root}
-use Rattle.release_rules.specs.Flags.{has_w}
+use Rattle.release_grants.specs.Flags.{has_w}
 use Rattle.release_rules.specs.Question.{Question}
 
 -- the access changes attributes, as a client checks it before it asks; to write may be to change the size or the times

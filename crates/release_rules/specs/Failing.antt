@@ -6,13 +6,13 @@ use Rattle.capbits.specs.Caller.{gids_of}
 use Rattle.capgrant.specs.Class.{has_bit}
 use Rattle.capgrant.specs.Failing.{is_some_and}
 use Rattle.capgrant.specs.Question.{contains}
-use Rattle.release_rules.specs.declared.grant.Grant.{Grant}
-use Rattle.release_rules.specs.declared.release.Switches.{Switches}
+use Rattle.release_grants.specs.declared.grant.Grant.{Grant}
+use Rattle.release_grants.specs.declared.switches.Switches.{Switches}
 use Rattle.release_rules.specs.declared.rule.Rule.{Rule}
 use Rattle.release_rules.specs.declared.rule.Rule.TheVariants as rule
-use Rattle.release_rules.specs.Flags.{has_f, has_p, has_s, has_w}
-use Rattle.release_rules.specs.Networks.{in_network, is_no}
-use Rattle.release_rules.specs.Paths.{directory_of, lies_in, path_text}
+use Rattle.release_grants.specs.Flags.{has_f, has_p, has_s, has_w}
+use Rattle.release_grants.specs.Networks.{in_network, is_no}
+use Rattle.release_grants.specs.Paths.{directory_of, lies_in, path_text}
 use Rattle.release_rules.specs.Question.{Question, class_unit, is_own_group, is_owner}
 use Rattle.release_rules.specs.Rules.{all_rules, rules_but_path}
 

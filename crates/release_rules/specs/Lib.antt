@@ -1,15 +1,8 @@
 pub mod Releases
-pub mod Flags
 pub mod Asked
 pub mod Rules
-pub mod Networks
-pub mod Paths
 pub mod Question
 pub mod Failing
 pub mod Verdicts
 pub mod Clients
-pub mod Texts
-pub mod Items
-pub mod Reading
 pub mod Beside
-pub mod Written

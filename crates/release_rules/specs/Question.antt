@@ -4,8 +4,8 @@ use Rattle.capbits.specs.declared.caller.Caller.{Caller}
 use Rattle.capgrant.specs.declared.access.Attr.{Attr}
 use Rattle.capgrant.specs.Question.{contains}
 use Rattle.release_rules.specs.declared.asked.Asked.{Asked}
-use Rattle.release_rules.specs.declared.grant.Grant.{Grant}
-use Rattle.release_rules.specs.Networks.{Address}
+use Rattle.release_grants.specs.declared.grant.Grant.{Grant}
+use Rattle.release_grants.specs.Networks.{Address}
 
 -- what is asked: on this file system, may this caller do this with the inode that has these names and attributes? Where it is known, the
 -- address of the client.

@@ -2,14 +2,14 @@
 use Rattle.std.specs.Prelude.{ℕ, ◌+◌, Bool, true, false, not, ◌&&◌, ◌||◌, ◌==◌, Option, Some, None, is_none, List, length, position, filter_map, if◌then◌else◌}
 use Rattle.std.specs.List.{list_any}
 use Rattle.capgrant.specs.Failing.{is_some_and}
-use Rattle.release_rules.specs.declared.grant.Grant.{Grant}
-use Rattle.release_rules.specs.declared.release.Switches.{Switches}
+use Rattle.release_grants.specs.declared.grant.Grant.{Grant}
+use Rattle.release_grants.specs.declared.switches.Switches.{Switches}
 use Rattle.release_rules.specs.declared.rule.Rule.{Rule}
 use Rattle.release_rules.specs.declared.verdict.Verdict.{Verdict}
 use Rattle.release_rules.specs.declared.verdict.Verdict.TheVariants.{Allowed, CannotMount, Denied, DependsOnAddress}
 use Rattle.release_rules.specs.Failing.{first_failing, has_user, is_for_other_fs}
-use Rattle.release_rules.specs.Networks.{in_network, is_unknown}
-use Rattle.release_rules.specs.Paths.{without_first_slashes}
+use Rattle.release_grants.specs.Networks.{in_network, is_unknown}
+use Rattle.release_grants.specs.Paths.{without_first_slashes}
 use Rattle.release_rules.specs.Question.{Question}
 
 -- ---- who may mount

@@ -3,14 +3,13 @@ ghost use Rattle.std.specs.Prelude.{◌≡◌, slice_get, IfOk};
 ghost use Rattle.release_rules.specs.Beside.{allowed_there, beside, denied_there, names_nobody, other_of, others_of, why_allowed, why_by_mode};
 ghost use Rattle.release_rules.specs.Beside.{why_denied, why_squashed, zero_uid_or};
 
-use crate::grant::Grant;
 use crate::judging::mds_verdict;
 use crate::question::Question;
-use crate::reading::read_grants;
-use crate::release::{Release, Switches};
+use crate::release::Release;
 use crate::rule::Rule;
 use crate::verdict::Verdict;
 use capgrant::Access;
+use release_grants::{Grant, Switches, read_grants};
 use std::alloc::{AllocError, Global};
 
 /// Why an MDS answers otherwise than this server, by the grant that makes the difference.

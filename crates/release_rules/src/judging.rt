@@ -4,13 +4,11 @@ ghost use Rattle.release_rules.specs.Verdicts.{allows, first_failures, is_for_ev
 ghost use Rattle.release_rules.specs.Clients.{changes_attributes, client_refuses, decided};
 ghost use Rattle.release_rules.specs.Failing.{may_allow_somewhere};
 
-use crate::grant::Grant;
-use crate::paths::without_first_slashes;
 use crate::question::{Question, is_for_other_fs, user_of};
-use crate::release::Switches;
 use crate::verdict::{Rules, Verdict};
 use capgrant::Access;
 use capspec::FsName;
+use release_grants::{Grant, Switches, without_first_slashes};
 use std::alloc::{AllocError, Global};
 
 /// Whether a client with these grants may mount the file system: else the MDS opens no session for it. In Ceph 20 a client that may only by a grant

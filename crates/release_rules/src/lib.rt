@@ -6,33 +6,18 @@
 
 mod asked;
 mod beside;
-mod bytes;
-mod flags;
-mod forms;
-mod grant;
-mod items;
 mod judging;
-mod network;
-mod paths;
 mod question;
-mod reading;
 mod release;
 mod rule;
 mod verdict;
-mod writing;
 
 pub use asked::Asked;
 pub use beside::{Others, Otherwise, Reason, allowed_there, answers_beside, denied_there};
-pub use flags::Flags;
-pub use forms::{NoForm, mds_form};
-pub use grant::{GidList, Grant, Grants, Text};
 pub use judging::{
     changes_attributes, client_refuses, first_somewhere, is_for_everything, may_mount, mds_verdict,
 };
-pub use network::{InNetwork, in_network, read_address, writes_network};
-pub use paths::directory_of;
 pub use question::{Question, user_of};
-pub use reading::{Unread, read_grants};
-pub use release::{Release, Switches};
+pub use release::Release;
 pub use rule::Rule;
 pub use verdict::{Rules, Verdict};

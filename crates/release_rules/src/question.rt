@@ -7,14 +7,11 @@ ghost use Rattle.release_rules.specs.Question.{is_in_groups, is_own_group};
 ghost use Rattle.release_rules.specs.Failing.{is_for_other_fs, is_root, is_user, user_of};
 
 use crate::asked::Asked;
-use crate::grant::Grant;
-use crate::network::{InNetwork, in_network};
-use crate::paths::{directory_of, lies_in, path_text};
-use crate::release::Switches;
 use crate::rule::Rule;
 use capbits::Caller;
 use capgrant::Attr;
 use capspec::{FsName, TreePath};
+use release_grants::{Grant, InNetwork, Switches, directory_of, in_network, lies_in, path_text};
 use std::marker::Model;
 use std::net::IpAddr;
 
@@ -83,7 +80,7 @@ impl Drop for Question<'_> {
 
 impl<'a> Model for Question<'a> {
     ghost use Rattle.std.specs.Prelude.{option_map};
-    ghost use Rattle.release_rules.specs.Networks.{address_of};
+    ghost use Rattle.release_grants.specs.Networks.{address_of};
     ghost use Rattle.release_rules.specs.Question.{Question as Asking};
 
     ghost Value = { Asking };
@@ -94,7 +91,6 @@ impl<'a> Model for Question<'a> {
 impl Question<'_> {
     ghost use Rattle.std.specs.Prelude.{◌≡◌, ◌≤◌, find, not};
     ghost use Rattle.release_rules.specs.Question.{class_unit, is_owner};
-    ghost use Rattle.release_rules.specs.Rules.{rules_but_path};
     ghost use Rattle.release_rules.specs.Failing.{fails, fails_fsname, fails_gids, fails_mode_bits, fails_network, fails_no_f, fails_no_p, fails_no_s};
     ghost use Rattle.release_rules.specs.Failing.{fails_no_write, fails_not_own_group, fails_not_owner, fails_path, fails_root_squash, fails_uid};
     ghost use Rattle.release_rules.specs.Failing.{first_failing, lacks, may_allow_somewhere};
@@ -120,17 +116,8 @@ impl Question<'_> {
     pub(crate) fn may_be_allowed_somewhere(&self, switches: Switches, grant: &Grant) -> bool
         ensures { result ≡ may_allow_somewhere switches self.now grant.now }
     {
-        self.first_failing_but_path(switches, grant).is_none()
-    }
-
-    // The first rule but that of the path by which the grant fails, if there is one.
-    fn first_failing_but_path(&self, switches: Switches, grant: &Grant) -> Option<Rule>
-        ensures { result ≡ find (λ r. fails r switches self.now grant.now) rules_but_path }
-    {
-        RULES_BUT_PATH
-            .iter()
-            .copied()
-            .find(|rule| self.fails(*rule, switches, grant))
+        let failing = self.first_failing_of(&RULES_BUT_PATH, switches, grant);
+        failing.is_none()
     }
 
     /// Whether it is not known that the client is in the grant's network.
@@ -164,7 +151,14 @@ impl Question<'_> {
     pub fn first_failing(&self, switches: Switches, grant: &Grant) -> Option<Rule>
         ensures { result ≡ first_failing switches self.now grant.now }
     {
-        ALL_RULES
+        self.first_failing_of(&ALL_RULES, switches, grant)
+    }
+
+    // The first of these rules by which the grant fails, if there is one.
+    fn first_failing_of(&self, rules: &[Rule], switches: Switches, grant: &Grant) -> Option<Rule>
+        ensures { result ≡ find (λ r. fails r switches self.now grant.now) rules.now }
+    {
+        rules
             .iter()
             .copied()
             .find(|rule| self.fails(*rule, switches, grant))

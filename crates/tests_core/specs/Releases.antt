@@ -4,13 +4,13 @@ use Rattle.capgrant.specs.declared.access.Access.TheVariants.{Read, Write}
 use Rattle.release_rules.specs.Asked.{asked_for}
 use Rattle.release_rules.specs.Clients.{client_refuses}
 use Rattle.release_rules.specs.Question.{Question}
-use Rattle.release_rules.specs.Reading.{read_of}
+use Rattle.release_grants.specs.Reading.{read_of}
 use Rattle.release_rules.specs.Releases.{switches_of}
 use Rattle.release_rules.specs.Verdicts.{verdict_of}
-use Rattle.release_rules.specs.declared.grant.Grant.{Grant}
-use Rattle.release_rules.specs.declared.reading.Unread.{Unread}
+use Rattle.release_grants.specs.declared.grant.Grant.{Grant}
+use Rattle.release_grants.specs.declared.reading.Unread.{Unread}
 use Rattle.release_rules.specs.declared.release.Release.TheVariants.{Pacific, Reef, Tentacle}
-use Rattle.release_rules.specs.declared.release.Switches.{Switches}
+use Rattle.release_grants.specs.declared.switches.Switches.{Switches}
 use Rattle.release_rules.specs.declared.verdict.Verdict.{Verdict}
 use Rattle.release_rules.specs.declared.verdict.Verdict.TheVariants.{Allowed, CannotMount, Denied, DependsOnAddress}
 use Rattle.tests_core.specs.Verdicts.{caller, owned}

@@ -5,9 +5,8 @@ use crate::values::{attr_of, caller_of, cephfs};
 use capgrant::Access;
 use capspec::TreePath;
 use osd_caps::{Right, read_osd_caps};
-use release_rules::{
-    Asked, Grants, Question, Release, Switches, Verdict, client_refuses, mds_verdict, read_grants,
-};
+use release_grants::{Grants, Switches, read_grants};
+use release_rules::{Asked, Question, Release, Verdict, client_refuses, mds_verdict};
 use std::alloc::Global;
 use std::process::Abort;
 

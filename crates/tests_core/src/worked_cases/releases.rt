@@ -4,7 +4,7 @@
 ghost use Rattle.std.specs.Prelude.{◌≡◌, [], ◌∷◌, codes, Ok, Err, Some, None};
 ghost use Rattle.capgrant.specs.declared.access.Access.TheVariants.{Chgrp, Chmod, Chown, Read};
 ghost use Rattle.release_rules.specs.Asked.{asked_by, asked_for};
-ghost use Rattle.release_rules.specs.Networks.Address.{Short};
+ghost use Rattle.release_grants.specs.Networks.Address.{Short};
 ghost use Rattle.release_rules.specs.Rules.{rule_number, rule_word};
 ghost use Rattle.release_rules.specs.declared.rule.Rule.TheVariants.{NoWrite, Path};
 ghost use Rattle.release_rules.specs.declared.verdict.Verdict.TheVariants.{Allowed, Denied};

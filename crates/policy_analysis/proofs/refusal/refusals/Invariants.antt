@@ -1,5 +1,5 @@
 use Rattle.std.proofs.Common.{◌≡◌, ℕ, ◌<◌, Option, length, get_or}
-use Rattle.release_rules.specs.declared.grant.Grant.{Grant}
+use Rattle.release_grants.specs.declared.grant.Grant.{Grant}
 use Rattle.policy_analysis.specs.declared.refusal.Refusal.{Refusal}
 use Rattle.policy_analysis.specs.Refusals.{IsFoundOf}
 use Rattle.policy_analysis.proofs.refusal.refusals.Given as goal

@@ -1,7 +1,7 @@
 use Rattle.std.proofs.Common.{sym, ap, ◌∙◌}
 use Rattle.policy_analysis.specs.MdsStanding.{switches}
-use Rattle.release_rules.specs.declared.release.Switches.{Switches}
-use Rattle.release_rules.specs.Reading.{read_of}
+use Rattle.release_grants.specs.declared.switches.Switches.{Switches}
+use Rattle.release_grants.specs.Reading.{read_of}
 use Rattle.queries.proofs.ClientsBy.{judged_by, unread_by}
 use Rattle.queries.proofs.clients_by.print_client_by.Goals as goal
 

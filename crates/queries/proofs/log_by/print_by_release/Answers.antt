@@ -1,6 +1,6 @@
 use Rattle.std.proofs.Common.{◌≡◌, Bool, List, inl, inr, ap, refl, subst, ◌∙◌}
 use Rattle.std.specs.Prelude.{is_some}
-use Rattle.release_rules.specs.declared.grant.Grant.{Grant}
+use Rattle.release_grants.specs.declared.grant.Grant.{Grant}
 use Rattle.queries.specs.declared.mds.MdsAsking.{MdsAsking}
 use Rattle.queries.specs.Before.{given_texts_of}
 use Rattle.queries.specs.Mds.{IsMdsFault}

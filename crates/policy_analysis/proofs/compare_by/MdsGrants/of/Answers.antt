@@ -1,5 +1,5 @@
 use Rattle.std.proofs.Common.{true, false, inr, List, subst, rules}
-use Rattle.release_rules.specs.declared.grant.Grant.{Grant}
+use Rattle.release_grants.specs.declared.grant.Grant.{Grant}
 use Rattle.policy_analysis.specs.ComparingBy.{terms_of}
 use Rattle.policy_analysis.specs.StandIns.{IsNotCompared, IsWhyNot}
 use Rattle.policy_analysis.proofs.StoodIn.{handed_on}

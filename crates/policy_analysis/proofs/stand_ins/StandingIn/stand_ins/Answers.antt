@@ -3,7 +3,7 @@ use Rattle.std.specs.List.{list_any}
 use Rattle.std.proofs.Math.Seq.{take-length}
 use Rattle.std.proofs.lemmas.Bool.{or_left, or_right}
 use Rattle.std.proofs.lemmas.List.{take_all}
-use Rattle.release_rules.specs.declared.grant.Grant.{Grant}
+use Rattle.release_grants.specs.declared.grant.Grant.{Grant}
 use Rattle.policy_analysis.specs.StandIns.{IsWhyNot, allowing, mounts_each, names, one_allows, terms_in}
 use Rattle.policy_analysis.proofs.Mounting.{all_named, none_named, none_yet, one_named, stand_in_each}
 use Rattle.policy_analysis.proofs.StoodIn.{handed_on, no_times, none_on, none_on_each, times_more, times_same}

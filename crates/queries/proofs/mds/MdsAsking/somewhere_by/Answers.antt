@@ -1,7 +1,7 @@
 use Rattle.std.proofs.Common.{◌≡◌, Option, ℕ, List, ap, ◌∙◌}
 use Rattle.std.specs.Prelude.{position}
-use Rattle.release_rules.specs.declared.grant.Grant.{Grant}
-use Rattle.release_rules.specs.declared.release.Switches.{Switches}
+use Rattle.release_grants.specs.declared.grant.Grant.{Grant}
+use Rattle.release_grants.specs.declared.switches.Switches.{Switches}
 use Rattle.release_rules.specs.Failing.{may_allow_somewhere}
 use Rattle.release_rules.specs.Question.{Question}
 use Rattle.release_rules.specs.Releases.{switches_of}
