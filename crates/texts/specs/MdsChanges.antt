@@ -1,5 +1,5 @@
 -- What one list of grants allows and another denies by the rules of a release, as lines and as objects.
-use Rattle.std.specs.Prelude.{◌≡◌, ⊥, ℕ, Option, Some, None, IfSome, List, [], ◌++◌, codes, if◌then◌else◌}
+use Rattle.std.specs.Prelude.{◌≡◌, ℕ, Option, Some, None, IfSome, List, [], ◌++◌, codes, if◌then◌else◌}
 use Rattle.policy_analysis.specs.declared.compare_by.Change.{Change}
 use Rattle.policy_analysis.specs.declared.witness.Witness.{Witness}
 use Rattle.texts.specs.Changes.{change_lines, change_value}
