@@ -25,3 +25,4 @@ pub mod MdsAnswered
 pub mod Beside
 pub mod MdsClients
 pub mod MdsJsonClients
+pub mod Pieced

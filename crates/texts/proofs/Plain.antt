@@ -26,9 +26,7 @@ use Rattle.texts.specs.PartTexts.{mode_text}
 use Rattle.policy_analysis.specs.declared.witness.Witness.{Witness}
 use Rattle.policy_analysis.specs.declared.standing.Standing.{Standing}
 use Rattle.policy_analysis.specs.declared.standing.Standing.TheVariants as standings
-use Rattle.policy_analysis.specs.declared.mds_standing.MdsStanding.{MdsStanding}
 use Rattle.policy_analysis.specs.Callers.{Wanted}
-use Rattle.policy_analysis.specs.MdsStanding.{MdsWanted}
 use Rattle.release_rules.specs.declared.beside.Otherwise.{Otherwise}
 use Rattle.release_rules.specs.declared.beside.Others.{Others}
 use Rattle.release_rules.specs.declared.beside.Reason.{Reason}
@@ -50,12 +48,8 @@ use Rattle.texts.specs.Answers.{verdict_word, with_question}
 use Rattle.texts.specs.declared.mds_asked.MdsAccess.{MdsAccess}
 use Rattle.texts.specs.MdsAsked.{mds_access_word}
 use Rattle.texts.specs.MdsAnswers.{failures_value, grant_value, mds_rule_value, mds_rules_value, mds_table, mds_value, mds_word}
-use Rattle.texts.specs.Changes.{change_table, change_value, with_witness}
-use Rattle.policy_analysis.specs.declared.releases.Releases.{Releases}
-use Rattle.texts.specs.Findings.{finding_table, refused_value, releases_table, undone_value}
-use Rattle.policy_analysis.specs.Releases.{releases_numbers}
-use Rattle.texts.specs.Standings.{known_table, standing_table, standing_value, with_client}
-use Rattle.texts.specs.MdsStandings.{mds_standing_table, mds_standing_value, mds_standing_word, mds_unread_table, mds_unread_value, wanted_of}
+use Rattle.texts.specs.Changes.{with_witness, witnessed_value}
+use Rattle.texts.specs.Standings.{client_value, known_table, standing_table, standing_value, with_client}
 
 -- ---- any values
 
@@ -253,6 +247,11 @@ flat-client client w attr =
     flat-with_all 2 (known_table attr) placed (flat-known attr)
     (flat-with_all 2 (place_table w.access w.path w.fs) named (flat-place w.access w.path w.fs) (flat-with_all 2 ((codes "client", bytes_value client) ∷ []) no_members (flat-bytes client, tt) (none 2)))
 
+pub plain-client : (client : List ℕ) (w : Wanted) (attr : Option Attr) (table : List Row) → IsPlain (client_value client w attr (map member_of table))
+plain-client client w attr table =
+    let asked = with_client client w attr no_members in
+    plain-object (with_all (map member_of table) asked) (flat-with_all 2 (map member_of table) asked (flat-pieces table) (flat-client client w attr))
+
 flat-standing : (standing : Standing) → AllFlat 2 (standing_table standing)
 flat-standing (standings.Allowed grant) = flat-allowing (codes "allowed") grant
 flat-standing (standings.Depends grant) = flat-allowing (codes "depends") grant
@@ -264,62 +263,17 @@ plain-standing client w attr standing others =
     let judged = with_all (standing_table standing) asked in
     plain-object (with_all (others_table others) judged) (flat-with_all 2 (others_table others) judged (flat-others others) (flat-with_all 2 (standing_table standing) asked (flat-standing standing) (flat-client client w attr)))
 
--- ---- those of clients by a release
-
-flat-mds_standing : (release : Release) (standing : MdsStanding) → AllFlat 2 (mds_standing_table release standing)
-flat-mds_standing release standing = (
-  flat-string 2 (version_of release),
-  (
-    flat-string 2 (mds_standing_word standing.verdict standing.by_inode),
-    (
-      flat-grant_value standing.verdict,
-      (flat-failures_value standing.verdict, (flat-or_null 2 natural (flat-natural 2) standing.refused, tt)),
-    ),
-  ),
-)
-
-pub plain-mds_standing : (client : List ℕ) (w : MdsWanted) (standing : MdsStanding) → IsPlain (mds_standing_value client w standing)
-plain-mds_standing client w standing =
-    let asked = with_client client (wanted_of w) w.known no_members in
-    plain-object (with_all (mds_standing_table w.release standing) asked) (flat-with_all 2 (mds_standing_table w.release standing) asked (flat-mds_standing w.release standing) (flat-client client (wanted_of w) w.known))
-
-flat-mds_unread : (release : Release) (at : ℕ) → AllFlat 2 (mds_unread_table release at)
-flat-mds_unread release at = (flat-string 2 (version_of release), (flat-string 2 (codes "unread"), (flat-natural 2 at, tt)))
-
-pub plain-mds_unread : (client : List ℕ) (w : MdsWanted) (at : ℕ) → IsPlain (mds_unread_value client w at)
-plain-mds_unread client w at =
-    let asked = with_client client (wanted_of w) w.known no_members in
-    plain-object (with_all (mds_unread_table w.release at) asked) (flat-with_all 2 (mds_unread_table w.release at) asked (flat-mds_unread w.release at) (flat-client client (wanted_of w) w.known))
-
--- ---- those of changes and findings
+-- ---- those with a witness
 
 flat-witness : (key : List ℕ) (w : Witness) (ms : Members) → AreFlat 2 ms → AreFlat 2 (with_witness key w ms)
 flat-witness key w ms flat =
     let q = question w.fs w.caller w.path.now w.attr w.access in
     flat-with_all 2 ((key, natural w.grant) ∷ []) (with_question q ms) (flat-natural 2 w.grant, tt) (flat-question q ms flat)
 
-flat-change : (change : List ℕ) → AreFlat 2 (with_all (change_table change) no_members)
-flat-change change = flat-with_all 2 (change_table change) no_members (flat-string 2 change, tt) (none 2)
-
-pub plain-change : (change : List ℕ) (w : Witness) → IsPlain (change_value change w)
-plain-change change w =
-    let begun = with_all (change_table change) no_members in
-    plain-object (with_witness (codes "grant") w begun) (flat-witness (codes "grant") w begun (flat-change change))
-
-flat-finding : (finding : List ℕ) (grant : ℕ) → AreFlat 2 (with_all (finding_table finding grant) no_members)
-flat-finding finding grant = flat-with_all 2 (finding_table finding grant) no_members (flat-string 2 finding, (flat-natural 2 grant, tt)) (none 2)
-
-pub plain-undone : (grant : ℕ) (w : Witness) → IsPlain (undone_value grant w)
-plain-undone grant w =
-    let begun = with_all (finding_table (codes "root-squash-undone") grant) no_members in
-    plain-object (with_witness (codes "allowed_by") w begun) (flat-witness (codes "allowed_by") w begun (flat-finding (codes "root-squash-undone") grant))
-
-pub plain-refused : (grant : ℕ) (releases : Releases) (w : Witness) → IsPlain (refused_value grant releases w)
-plain-refused grant releases w =
-    let table = releases_table (codes "refused-by-clients") grant releases in
-    let begun = with_all table no_members in
-    plain-object (with_witness (codes "refused_by") w begun)
-    (flat-witness (codes "refused_by") w begun (flat-with_all 2 table no_members (flat-string 2 (codes "refused-by-clients"), (flat-natural 2 grant, (flat-numbers (releases_numbers releases), tt))) (none 2)))
+pub plain-witnessed : (key : List ℕ) (w : Witness) (table : List Row) → IsPlain (witnessed_value key w (map member_of table))
+plain-witnessed key w table =
+    let begun = with_all (map member_of table) no_members in
+    plain-object (with_witness key w begun) (flat-witness key w begun (flat-with_all 2 (map member_of table) no_members (flat-pieces table) (none 2)))
 
 -- the same of members that are known to be these
 pub plain-as : (ms : Members) (d : Data) → object ms ≡ d → IsPlain d → IsPlain (object ms)

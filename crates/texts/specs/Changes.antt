@@ -14,6 +14,10 @@ asked_by w = question w.fs w.caller w.path.now w.attr w.access
 abbrev pub with_witness : List ℕ → Witness → Members → Members
 with_witness key w ms = with_all ((key, natural w.grant) ∷ []) (with_question (asked_by w) ms)
 
+-- the object with these members and those of a witness
+abbrev pub witnessed_value : List ℕ → Witness → Table → Data
+witnessed_value key w table = object (with_witness key w (with_all table no_members))
+
 abbrev pub change_table : List ℕ → Table
 change_table change = (codes "change", string change) ∷ []
 

@@ -37,10 +37,14 @@ undone_line grant (Some w) = json_line (undone_value grant w)
 abbrev pub reason_table : ℕ → List ℕ → Table → Table
 reason_table grant reason more = (codes "finding", string (codes "unread-as-it-stands")) ∷ (codes "grant", natural grant) ∷ (codes "reason", string reason) ∷ more
 
+-- the item with the first of these keys has to stand before that with the second
+abbrev pub order_table : ℕ → List ℕ → List ℕ → Table
+order_table grant first second = reason_table grant (codes "order") ((codes "first", string first) ∷ (codes "second", string second) ∷ [])
+
 abbrev pub stands_table : ℕ → Unread → Table
 stands_table grant WhiteSpace = reason_table grant (codes "white-space") []
 stands_table grant AnyFileSystem = reason_table grant (codes "any-file-system") []
-stands_table grant (Order first second) = reason_table grant (codes "order") ((codes "first", string (name first)) ∷ (codes "second", string (name second)) ∷ [])
+stands_table grant (Order first second) = order_table grant (name first) (name second)
 
 abbrev pub stands_object : ℕ → Option Unread → List ℕ
 stands_object grant None = []

@@ -24,3 +24,4 @@ pub mod MdsAsked
 pub mod MdsTold
 pub mod MdsStandings
 pub mod MdsChanges
+pub mod LineTexts

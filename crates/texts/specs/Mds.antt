@@ -81,6 +81,11 @@ said (Some other) = said_word other.allows ++ (reason_text other.reason ++ (code
 abbrev pub said_line : List ℕ → List ℕ → List ℕ → List ℕ
 said_line front releases words = if length words == 0 then [] else front ++ (codes "the MDS of Ceph " ++ (releases ++ words))
 
+-- a line for releases of which this is said and for 20 together, where the same is said of it, or one for those and one for 20
+abbrev pub with_last : List ℕ → List ℕ → List ℕ → List ℕ → List ℕ → List ℕ
+with_last front together releases words tentacle =
+    if bytes_eq words tentacle then said_line front together words else said_line front releases words ++ said_line front (codes "20") tentacle
+
 -- a line for each release, and one for two or three that follow each other and of which the same is said
 abbrev pub said_lines : List ℕ → List ℕ → List ℕ → List ℕ → List ℕ
 said_lines front pacific reef tentacle =

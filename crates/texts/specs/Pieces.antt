@@ -9,7 +9,7 @@ use Rattle.texts.specs.declared.table.Piece.TheVariants.{Access, Bytes, Caps, Md
 use Rattle.texts.specs.Answers.{rules_value}
 use Rattle.texts.specs.MdsAnswers.{mds_rules_value}
 use Rattle.texts.specs.MdsAsked.{mds_access_word}
-use Rattle.texts.specs.Values.{bytes_value, natural, numbers_value, object_of}
+use Rattle.texts.specs.Values.{Table, bytes_value, natural, numbers_value, object_of}
 
 abbrev pub piece_value : Piece → Data
 piece_value Null = null
@@ -22,6 +22,10 @@ piece_value (Path path) = bytes_value (path_text (map (λ name. name.now) path.n
 piece_value (Caps caps) = bytes_value (text_of caps)
 piece_value (Rules rules) = rules_value rules.now
 piece_value (MdsRules rules) = mds_rules_value rules.now
+
+-- the values of these pieces at these keys
+abbrev pub table_of : List (Bor (List ℕ) × Piece) → Table
+table_of table = map (λ m. (m.0.now, piece_value m.1)) table
 
 -- the object with these pieces at these keys
 abbrev pub pieces_value : List (Bor (List ℕ) × Piece) → Data

@@ -24,6 +24,10 @@ known_table (Some attr) = attr_table attr
 abbrev pub with_client : List ℕ → Wanted → Option Attr → Members → Members
 with_client client w attr ms = with_all (known_table attr) (with_all (place_table w.access w.path w.fs) (with_all ((codes "client", bytes_value client) ∷ []) ms))
 
+-- the object with the client, what is asked of it, and these members
+abbrev pub client_value : List ℕ → Wanted → Option Attr → Table → Data
+client_value client w attr table = object (with_all table (with_client client w attr no_members))
+
 -- by which grant, or by which rules
 abbrev pub standing_table : Standing → Table
 standing_table (Allowed grant) = allowing_table (codes "allowed") grant

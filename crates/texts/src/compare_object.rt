@@ -1,11 +1,12 @@
 //! What one list of grants allows and another denies.
 ghost use Rattle.std.specs.Prelude.{◌≡◌, ◌++◌, IfOk, OnOk};
 ghost use Rattle.serde_json.specs.View.{members_view};
-ghost use Rattle.texts.specs.Changes.{change_line, change_lines, change_value, with_witness};
-ghost use Rattle.texts.specs.Values.{json_line};
+ghost use Rattle.texts.specs.Changes.{change_line, change_lines, change_value, with_witness, witnessed_value};
+ghost use Rattle.texts.specs.Pieces.{table_of};
+ghost use Rattle.texts.specs.Values.{ReadsBack, json_line};
 
 use crate::question_object::put_question;
-use crate::table::{Members, Piece, print_object, put_all};
+use crate::table::{Members, Piece, print_object, print_pieces, put_all};
 use capgrant::Question;
 use policy_analysis::Witness;
 use serde_json::Map;
@@ -33,10 +34,7 @@ pub fn change_objects(
 fn print_no_change(lines: &mut Vec<u8>) -> Result<(), AllocError>
     ensures { OnOk result (lines.new.items ≡ lines.old.items ++ change_lines None None) }
 {
-    let alloc = *lines.allocator();
-    let mut members = Map::new(alloc);
-    put_all(&mut members, alloc, &[("change", Piece::Word("none"))])?;
-    print_object(lines, members)
+    print_pieces(lines, &[("change", Piece::Word("none"))])
 }
 
 // Appends a line of this change, if there is a witness.
@@ -61,15 +59,11 @@ pub(crate) fn print_changed(
 ) -> Result<(), AllocError>
     ensures { OnOk result (lines.new.items ≡ lines.old.items ++ json_line (change_value change.now witness.now)) }
 {
-    let alloc = *lines.allocator();
-    let mut members = Map::new(alloc);
-    put_all(&mut members, alloc, &[("change", Piece::Word(change))])?;
-    put_witness(&mut members, alloc, "grant", witness)?;
-    print_object(lines, members)
+    print_witnessed(lines, &[("change", Piece::Word(change))], "grant", witness)
 }
 
-/// Adds the question of a witness, and at this key the number of the grant that allows it.
-pub(crate) fn put_witness(
+// Adds the question of a witness, and at this key the number of the grant that allows it.
+fn put_witness(
     members: &mut Members,
     alloc: Global,
     key: &str,
@@ -91,4 +85,21 @@ pub(crate) fn put_witness(
         alloc,
         &[(key, Piece::Number(u64::from(witness.grant)))],
     )
+}
+
+/// Appends the object with these members and those of a witness, whose grant stands at this key, as a line.
+pub(crate) fn print_witnessed(
+    lines: &mut Vec<u8>,
+    table: &[(&str, Piece<'_>)],
+    key: &str,
+    witness: &Witness<'_>,
+) -> Result<(), AllocError>
+    ensures line { OnOk result (lines.new.items ≡ lines.old.items ++ json_line (witnessed_value key.now witness.now (table_of table.now))) }
+    ensures reads { OnOk result (ReadsBack (witnessed_value key.now witness.now (table_of table.now))) }
+{
+    let alloc = *lines.allocator();
+    let mut members = Map::new(alloc);
+    put_all(&mut members, alloc, table)?;
+    put_witness(&mut members, alloc, key, witness)?;
+    print_object(lines, members)
 }

@@ -1,11 +1,10 @@
 //! The lines that say what one list of grants allows and another denies.
-ghost use Rattle.std.specs.Prelude.{◌≡◌, ◌++◌, IfOk, OnOk};
-ghost use Rattle.texts.specs.Comparing.{caller_text, comparison, found_line, owner_text, witness_text};
+ghost use Rattle.std.specs.Prelude.{◌≡◌, ◌++◌, IfOk, OnOk, map};
+ghost use Rattle.texts.specs.Comparing.{comparison, found_line, witness_text};
 
-use crate::part_text::{print_groups, print_mode};
-use crate::quoting::print_quoted_path;
-use capbits::{Caller, print, print_str};
-use capgrant::Attr;
+use crate::line_text::{Text, print_texts};
+use crate::mds_asked::MdsAccess;
+use capbits::print_str;
 use policy_analysis::Witness;
 use std::alloc::{AllocError, Global};
 
@@ -36,12 +35,12 @@ pub(crate) fn print_found(
 ) -> Result<(), AllocError>
     ensures { OnOk result (text.new.items ≡ text.old.items ++ found_line word.now found.now) }
 {
-    if let Some(witness) = found {
-        text.extend_from_slice(word.as_bytes())?;
-        print_witness(text, witness)?;
-        text.push(b'\n')?;
-    }
-    Ok(())
+    let Some(witness) = found else {
+        return Ok(());
+    };
+    print_str(text, word)?;
+    print_witness(text, witness)?;
+    print_str(text, "\n")
 }
 
 /// Appends the question of a witness, and the number of its grant.
@@ -49,28 +48,39 @@ pub(crate) fn print_witness(text: &mut Vec<u8>, witness: &Witness<'_>) -> Result
     ensures { OnOk result (text.new.items ≡ text.old.items ++ witness_text witness.now) }
 {
     let names = witness.path.names(*text.allocator())?;
-    let (access, grant) = (witness.access, witness.grant);
-    print(text, format_args!("{access} "))?;
-    print_quoted_path(text, names.as_slice())?;
-    print_str(text, " fs ")?;
-    text.extend_from_slice(witness.fs.as_bytes())?;
-    print_caller(text, &witness.caller)?;
-    print_owner(text, &witness.attr)?;
-    print(text, format_args!(" grant {grant}"))
+    print_question(text, names.as_slice(), witness)
 }
 
-fn print_caller(text: &mut Vec<u8>, caller: &Caller) -> Result<(), AllocError>
-    ensures { OnOk result (text.new.items ≡ text.old.items ++ caller_text caller.now) }
+// Appends the same, by the names of the path.
+fn print_question<'x>(
+    text: &mut Vec<u8>,
+    path: &'x [&'x [u8]],
+    witness: &'x Witness<'x>,
+) -> Result<(), AllocError>
+    requires { map (λ name. name.now) path.now ≡ witness.now.path.now }
+    ensures { OnOk result (text.new.items ≡ text.old.items ++ witness_text witness.now) }
 {
-    let (uid, gid) = (caller.uid, caller.gid);
-    print(text, format_args!(" uid {uid} gid {gid} groups "))?;
-    print_groups(text, &caller.groups)
-}
-
-fn print_owner(text: &mut Vec<u8>, attr: &Attr) -> Result<(), AllocError>
-    ensures { OnOk result (text.new.items ≡ text.old.items ++ owner_text attr.now) }
-{
-    let Attr { uid, gid, mode } = *attr;
-    print(text, format_args!(" owner {uid} group {gid} mode "))?;
-    print_mode(text, mode)
+    let (caller, attr) = (&witness.caller, &witness.attr);
+    let pieces = [
+        Text::Access(MdsAccess::One(witness.access)),
+        Text::Word(" "),
+        Text::Path(path),
+        Text::Word(" fs "),
+        Text::Bytes(witness.fs.as_bytes()),
+        Text::Word(" uid "),
+        Text::Number(u64::from(caller.uid)),
+        Text::Word(" gid "),
+        Text::Number(u64::from(caller.gid)),
+        Text::Word(" groups "),
+        Text::Groups(&caller.groups),
+        Text::Word(" owner "),
+        Text::Number(u64::from(attr.uid)),
+        Text::Word(" group "),
+        Text::Number(u64::from(attr.gid)),
+        Text::Word(" mode "),
+        Text::Mode(attr.mode),
+        Text::Word(" grant "),
+        Text::Number(u64::from(witness.grant)),
+    ];
+    print_texts(text, &pieces)
 }

@@ -1,13 +1,12 @@
 //! The answer to a question with all that is worth a word beside it.
 ghost use Rattle.std.specs.Prelude.{◌≡◌, ◌++◌, IfOk, OnOk};
 ghost use Rattle.texts.specs.Mds.{beside_text};
-ghost use Rattle.texts.specs.Remarks.{inode_text, left_line};
+ghost use Rattle.texts.specs.Remarks.{left_line};
 
 use crate::explain_text::{print_outcome, print_reason};
+use crate::line_text::{Text, print_texts};
 use crate::mds_text::print_others;
-use crate::part_text::print_mode;
 use crate::quoting::print_quoted_path;
-use capbits::print;
 use capgrant::{Attr, Question, Verdict};
 use release_rules::Others;
 use std::alloc::{AllocError, Global};
@@ -41,16 +40,16 @@ fn print_left(text: &mut Vec<u8>, attr: &Attr, left: Option<u32>) -> Result<(), 
     let Some(grant) = left else {
         return Ok(());
     };
-    print_inode(text, "not judged: owner ", attr)?;
-    print(text, format_args!(" (grant {grant} has no uid)\n"))
-}
-
-// Appends the owner of an inode behind a word, its group and its mode.
-#[tactic(auto, unfolding(crate::specs::Remarks::inode_text))]
-fn print_inode(text: &mut Vec<u8>, word: &str, attr: &Attr) -> Result<(), AllocError>
-    ensures { OnOk result (text.new.items ≡ text.old.items ++ inode_text word.now attr.now) }
-{
-    let Attr { uid, gid, mode } = *attr;
-    print(text, format_args!("{word}{uid}, group {gid}, mode "))?;
-    print_mode(text, mode)
+    let pieces = [
+        Text::Word("not judged: owner "),
+        Text::Number(u64::from(attr.uid)),
+        Text::Word(", group "),
+        Text::Number(u64::from(attr.gid)),
+        Text::Word(", mode "),
+        Text::Mode(attr.mode),
+        Text::Word(" (grant "),
+        Text::Number(u64::from(grant)),
+        Text::Word(" has no uid)\n"),
+    ];
+    print_texts(text, &pieces)
 }

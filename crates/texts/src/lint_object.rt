@@ -1,16 +1,16 @@
 //! What is found of a grant.
-ghost use Rattle.std.specs.Prelude.{◌≡◌, ◌++◌, All, IfSome, OnOk, true};
-ghost use Rattle.serde_json.specs.View.{members_view};
+ghost use Rattle.std.specs.Prelude.{◌≡◌, [], ◌++◌, All, IfSome, OnOk, true};
 ghost use Rattle.texts.specs.Found.{all_found};
 ghost use Rattle.texts.specs.Findings.{IsRead, finding_if, finding_objects, finding_table, odd_value, oddity_word, refused_value, stands_object, stands_table};
-ghost use Rattle.texts.specs.Findings.{undone_line, undone_value};
-ghost use Rattle.texts.specs.Values.{ReadsBack, json_line, object_of, with_all};
+ghost use Rattle.texts.specs.Findings.{order_table, reason_table, undone_line, undone_value};
+ghost use Rattle.texts.specs.Values.{ReadsBack, json_line, object_of};
 
-use crate::compare_object::put_witness;
-use crate::table::{Members, Piece, print_object, print_pieces, put_all};
+use crate::compare_object::print_witnessed;
+use crate::table::{Piece, print_pieces};
 use policy_analysis::{Finding, OddGrant, Oddity, Refusal, Releases, Unread, Witness};
-use serde_json::Map;
-use std::alloc::{AllocError, Global};
+use std::alloc::AllocError;
+
+const AS_IT_STANDS: &str = "unread-as-it-stands";
 
 /// Appends an object for each thing that is found of a grant, and nothing where there is none; and one for why Ceph 16 does not read
 /// it as it stands in its text. Each is a line, with its line feed, and who reads it has the object again. Only memory can be missing.
@@ -38,10 +38,11 @@ fn print_if(lines: &mut Vec<u8>, test: bool, found: &str, grant: u32) -> Result<
     if !test {
         return Ok(());
     }
-    let alloc = *lines.allocator();
-    let mut members = Map::new(alloc);
-    put_finding(&mut members, alloc, found, grant)?;
-    print_object(lines, members)
+    let table = [
+        ("finding", Piece::Word(found)),
+        ("grant", Piece::Number(u64::from(grant))),
+    ];
+    print_pieces(lines, &table)
 }
 
 // Appends that the root_squash of the grant is undone, if there is a witness.
@@ -56,27 +57,11 @@ fn print_undone(
     let Some(witness) = undoing else {
         return Ok(());
     };
-    let alloc = *lines.allocator();
-    let mut members = Map::new(alloc);
-    put_finding(&mut members, alloc, "root-squash-undone", grant)?;
-    put_witness(&mut members, alloc, "allowed_by", witness)?;
-    print_object(lines, members)
-}
-
-// Adds what is found, and of which grant.
-fn put_finding(
-    members: &mut Members,
-    alloc: Global,
-    found: &str,
-    grant: u32,
-) -> Result<(), AllocError>
-    ensures { OnOk result (members_view members.new.entries ≡ with_all (finding_table found.now grant) (members_view members.old.entries)) }
-{
     let table = [
-        ("finding", Piece::Word(found)),
+        ("finding", Piece::Word("root-squash-undone")),
         ("grant", Piece::Number(u64::from(grant))),
     ];
-    put_all(members, alloc, &table)
+    print_witnessed(lines, &table, "allowed_by", witness)
 }
 
 // Appends why Ceph 16 does not read the grant as it stands, where there is a reason.
@@ -88,25 +73,47 @@ fn print_as_it_stands(
     ensures line { OnOk result (lines.new.items ≡ lines.old.items ++ stands_object grant unread) }
     ensures reads { OnOk result (IfSome unread (λ why. ReadsBack (object_of (stands_table grant why)))) }
 {
-    let finding = ("finding", Piece::Word("unread-as-it-stands"));
-    let number = ("grant", Piece::Number(u64::from(grant)));
     match unread {
         None => Ok(()),
-        Some(Unread::WhiteSpace) => {
-            let reason = ("reason", Piece::Word("white-space"));
-            print_pieces(lines, &[finding, number, reason])
-        }
-        Some(Unread::AnyFileSystem) => {
-            let reason = ("reason", Piece::Word("any-file-system"));
-            print_pieces(lines, &[finding, number, reason])
-        }
+        Some(Unread::WhiteSpace) => print_reason(lines, grant, "white-space"),
+        Some(Unread::AnyFileSystem) => print_reason(lines, grant, "any-file-system"),
         Some(Unread::Order { first, second }) => {
-            let reason = ("reason", Piece::Word("order"));
-            let first = ("first", Piece::Word(first.name()));
-            let second = ("second", Piece::Word(second.name()));
-            print_pieces(lines, &[finding, number, reason, first, second])
+            print_order(lines, grant, first.name(), second.name())
         }
     }
+}
+
+// Appends that it does not read it for this reason.
+fn print_reason(lines: &mut Vec<u8>, grant: u32, reason: &str) -> Result<(), AllocError>
+    ensures line { OnOk result (lines.new.items ≡ lines.old.items ++ json_line (object_of (reason_table grant reason.now []))) }
+    ensures reads { OnOk result (ReadsBack (object_of (reason_table grant reason.now []))) }
+{
+    let table = [
+        ("finding", Piece::Word(AS_IT_STANDS)),
+        ("grant", Piece::Number(u64::from(grant))),
+        ("reason", Piece::Word(reason)),
+    ];
+    print_pieces(lines, &table)
+}
+
+// Appends that it does not read it since the item with the first of these keys has to stand before that with the second.
+fn print_order<'x>(
+    lines: &mut Vec<u8>,
+    grant: u32,
+    first: &'x str,
+    second: &'x str,
+) -> Result<(), AllocError>
+    ensures line { OnOk result (lines.new.items ≡ lines.old.items ++ json_line (object_of (order_table grant first.now second.now))) }
+    ensures reads { OnOk result (ReadsBack (object_of (order_table grant first.now second.now))) }
+{
+    let table = [
+        ("finding", Piece::Word(AS_IT_STANDS)),
+        ("grant", Piece::Number(u64::from(grant))),
+        ("reason", Piece::Word("order")),
+        ("first", Piece::Word(first)),
+        ("second", Piece::Word(second)),
+    ];
+    print_pieces(lines, &table)
 }
 
 /// Appends the object that says what is odd in a grant, by the rules of these releases. It is a line, with its line feed, and who reads it has the
@@ -148,14 +155,10 @@ pub fn print_refusal_object(
     ensures line { OnOk result (lines.new.items ≡ lines.old.items ++ json_line (refused_value grant refusal.now.releases refusal.now.witness)) }
     ensures reads { OnOk result (ReadsBack (refused_value grant refusal.now.releases refusal.now.witness)) }
 {
-    let alloc = *lines.allocator();
-    let mut members = Map::new(alloc);
     let table = [
         ("finding", Piece::Word("refused-by-clients")),
         ("grant", Piece::Number(grant as u64)),
         ("releases", Piece::Numbers(refusal.releases.numbers())),
     ];
-    put_all(&mut members, alloc, &table)?;
-    put_witness(&mut members, alloc, "refused_by", &refusal.witness)?;
-    print_object(lines, members)
+    print_witnessed(lines, &table, "refused_by", &refusal.witness)
 }

@@ -4,6 +4,7 @@ ghost use Rattle.std.specs.Prelude.{◌≡◌, ◌++◌, OnOk};
 ghost use Rattle.texts.specs.Linting.{finding_lines, odd_line, oddity_text, refused_line, reported_if, stands_line};
 
 use crate::compare_text::{print_found, print_witness};
+use crate::line_text::{Text, print_texts};
 use capbits::{print, print_numbered, print_str};
 use policy_analysis::{Finding, OddGrant, Oddity, Refusal, Releases, Unread};
 use std::alloc::AllocError;
@@ -75,9 +76,14 @@ fn print_as_it_stands(
 pub fn print_odd(text: &mut Vec<u8>, releases: Releases, odd: OddGrant) -> Result<(), AllocError>
     ensures { OnOk result (text.new.items ≡ text.old.items ++ odd_line odd.grant releases odd.oddity) }
 {
-    let (who, what) = (releases.text(), words(odd.oddity));
-    print_numbered(text, "grant ", odd.grant as u64)?;
-    print(text, format_args!(": {who}{what}"))
+    let pieces = [
+        Text::Word("grant "),
+        Text::Number(odd.grant as u64),
+        Text::Word(": "),
+        Text::Word(releases.text()),
+        Text::Word(words(odd.oddity)),
+    ];
+    print_texts(text, &pieces)
 }
 
 fn words(oddity: Oddity) -> &'static str
@@ -101,9 +107,14 @@ pub fn print_refusal(
 ) -> Result<(), AllocError>
     ensures { OnOk result (text.new.items ≡ text.old.items ++ refused_line grant refusal.now.releases refusal.now.witness) }
 {
-    let who = refusal.releases.text();
-    print_numbered(text, "grant ", grant as u64)?;
-    print(text, format_args!(": {who}: refused by clients, "))?;
+    let pieces = [
+        Text::Word("grant "),
+        Text::Number(grant as u64),
+        Text::Word(": "),
+        Text::Word(refusal.releases.text()),
+        Text::Word(": refused by clients, "),
+    ];
+    print_texts(text, &pieces)?;
     print_witness(text, &refusal.witness)?;
-    Ok(text.push(b'\n')?)
+    print_str(text, "\n")
 }

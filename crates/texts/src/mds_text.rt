@@ -1,10 +1,10 @@
 //! What the MDS of a release says to a question, as lines.
 ghost use Rattle.std.specs.Prelude.{◌≡◌, ◌++◌, IfOk, OnOk, map};
 ghost use Rattle.texts.specs.Mds.{mds_failure, mds_failures, mds_line, mds_outcome, mds_reason, mds_text, others_lines, reason_text};
-ghost use Rattle.texts.specs.Mds.{refused_line, said, said_line, said_lines, said_word};
+ghost use Rattle.texts.specs.Mds.{refused_line, said, said_line, said_lines, said_word, with_last};
 
+use crate::line_text::{Text, print_texts};
 use crate::mds_asked::MdsAccess;
-use crate::quoting::print_quoted_path;
 use capbits::{print, print_numbered, print_str};
 use release_rules::{Others, Otherwise, Reason, Rule, Verdict};
 use std::alloc::{AllocError, Global};
@@ -37,9 +37,13 @@ fn print_mds_line(
 ) -> Result<(), AllocError>
     ensures { OnOk result (text.new.items ≡ text.old.items ++ mds_line access (map (λ name. name.now) path.now) verdict.now) }
 {
-    let outcome = outcome(verdict);
-    print(text, format_args!("{outcome}{access} "))?;
-    print_quoted_path(text, path)?;
+    let pieces = [
+        Text::Word(outcome(verdict)),
+        Text::Access(access),
+        Text::Word(" "),
+        Text::Path(path),
+    ];
+    print_texts(text, &pieces)?;
     print_mds_reason(text, verdict)
 }
 
@@ -187,35 +191,48 @@ fn print_all_said(
 ) -> Result<(), AllocError>
     ensures { OnOk result (text.new.items ≡ text.old.items ++ said_lines front.now pacific.now reef.now tentacle.now) }
 {
-    if pacific == reef && reef == tentacle {
-        return print_said(text, front, "16, 18 and 20", pacific);
-    }
     if pacific == reef {
-        print_said(text, front, "16 and 18", pacific)?;
-        return print_said(text, front, "20", tentacle);
+        return print_with_last(text, front, "16, 18 and 20", "16 and 18", pacific, tentacle);
     }
     print_said(text, front, "16", pacific)?;
-    if reef == tentacle {
-        return print_said(text, front, "18 and 20", reef);
+    print_with_last(text, front, "18 and 20", "18", reef, tentacle)
+}
+
+// Appends a line for releases of which this is said and for 20 together, where the same is said of it, or one for those and one for 20.
+fn print_with_last(
+    text: &mut Vec<u8>,
+    front: &[u8],
+    together: &str,
+    releases: &str,
+    words: &[u8],
+    tentacle: &[u8],
+) -> Result<(), AllocError>
+    ensures { OnOk result (text.new.items ≡ text.old.items ++ with_last front.now together.now releases.now words.now tentacle.now) }
+{
+    if words == tentacle {
+        return print_said(text, front, together, words);
     }
-    print_said(text, front, "18", reef)?;
+    print_said(text, front, releases, words)?;
     print_said(text, front, "20", tentacle)
 }
 
 // Appends a line for these releases, where something is said of them.
-fn print_said(
+fn print_said<'x>(
     text: &mut Vec<u8>,
-    front: &[u8],
-    releases: &str,
-    words: &[u8],
+    front: &'x [u8],
+    releases: &'x str,
+    words: &'x [u8],
 ) -> Result<(), AllocError>
     ensures { OnOk result (text.new.items ≡ text.old.items ++ said_line front.now releases.now words.now) }
 {
     if words.is_empty() {
         return Ok(());
     }
-    text.extend_from_slice(front)?;
-    print_str(text, "the MDS of Ceph ")?;
-    print_str(text, releases)?;
-    text.extend_from_slice(words)
+    let pieces = [
+        Text::Bytes(front),
+        Text::Word("the MDS of Ceph "),
+        Text::Word(releases),
+        Text::Bytes(words),
+    ];
+    print_texts(text, &pieces)
 }

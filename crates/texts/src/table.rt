@@ -12,7 +12,7 @@ ghost use Rattle.texts.specs.Values.{IsPlain, ReadsBack, bytes_value, json_line,
 
 use crate::explain_text::print_path;
 use crate::mds_asked::MdsAccess;
-use capbits::{CapSet, print_caps};
+use capbits::{CapSet, print_caps, print_str};
 use capgrant::Rule;
 use serde_json::{Map, Value, put};
 use std::alloc::{AllocError, Global};
@@ -176,6 +176,6 @@ pub(crate) fn print_object(lines: &mut Vec<u8>, members: Members) -> Result<(), 
     ensures reads { OnOk result (ReadsBack (object (members_view members.entries))) }
 {
     let text = Value::from(members).to_string(*lines.allocator())?;
-    lines.extend_from_slice(text.as_str().as_bytes())?;
-    Ok(lines.push(b'\n')?)
+    print_str(lines, text.as_str())?;
+    print_str(lines, "\n")
 }

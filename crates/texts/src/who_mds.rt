@@ -1,24 +1,23 @@
 //! What is said of one client by a release: whether somebody behind its key may make an access there.
-ghost use Rattle.std.specs.Prelude.{◌≡◌, ◌++◌, IfOk, OnOk, map};
-ghost use Rattle.serde_json.specs.Data.{no_members};
-ghost use Rattle.serde_json.specs.View.{members_view};
-ghost use Rattle.texts.specs.MdsStandings.{mds_client_line, mds_client_text, mds_front, mds_standing_object, mds_standing_table, mds_standing_value};
-ghost use Rattle.texts.specs.MdsStandings.{mds_standing_word, mds_unread_line, mds_unread_object, mds_unread_table, mds_unread_value, refused_client};
-ghost use Rattle.texts.specs.MdsStandings.{wanted_of};
-ghost use Rattle.texts.specs.Standings.{with_client};
-ghost use Rattle.texts.specs.Values.{ReadsBack, with_all};
+ghost use Rattle.std.specs.Prelude.{◌≡◌, ◌++◌, OnOk, map};
+ghost use Rattle.texts.specs.MdsStandings.{mds_client_line, mds_client_text, mds_front, mds_standing_object, mds_standing_value, mds_standing_word};
+ghost use Rattle.texts.specs.MdsStandings.{mds_unread_line, mds_unread_object, mds_unread_value, refused_client, wanted_of};
+ghost use Rattle.texts.specs.Pieces.{table_of};
+ghost use Rattle.texts.specs.Standings.{client_value};
+ghost use Rattle.texts.specs.Values.{ReadsBack, json_line};
 
+use crate::line_text::{Text, print_texts};
 use crate::mds_answer::{count_if, failures_piece, grant_piece};
+use crate::mds_asked::MdsAccess;
 use crate::mds_text::{print_mds_reason, print_refused};
-use crate::quoting::{print_quoted, print_quoted_path};
-use crate::table::{Members, Piece, print_object, put_all};
-use crate::who_object::put_client;
-use capbits::{print, print_str};
+use crate::quoting::print_quoted;
+use crate::table::Piece;
+use crate::who_object::print_asked;
+use capbits::print_str;
 use capgrant::Access;
 use policy_analysis::{MdsStanding, MdsWanted, Wanted};
 use release_rules::{Release, Verdict};
-use serde_json::Map;
-use std::alloc::{AllocError, Global};
+use std::alloc::AllocError;
 
 /// Appends the line for a client: whether somebody behind its key may do what is wanted, and by which grant or rules; and a line for the grant by
 /// which the client itself refuses, where there is one. `AllocError` where no memory is left for it; some of it may stand in the text then.
@@ -35,21 +34,26 @@ pub fn print_mds_standing(
     print_client_refused(text, client, standing.refused)
 }
 
-fn print_client_line(
+fn print_client_line<'x>(
     text: &mut Vec<u8>,
-    client: &[u8],
+    client: &'x [u8],
     access: Access,
-    path: &[&[u8]],
+    path: &'x [&'x [u8]],
     standing: &MdsStanding,
 ) -> Result<(), AllocError>
     ensures { OnOk result (text.new.items ≡ text.old.items ++ mds_client_line client.now access (map (λ name. name.now) path.now) standing.now) }
 {
-    let front = front(&standing.verdict, standing.by_inode);
-    print_quoted(text, client)?;
-    print(text, format_args!("{front}{access} "))?;
-    print_quoted_path(text, path)?;
-    print_mds_reason(text, &standing.verdict)?;
-    Ok(text.push(b'\n')?)
+    let verdict = &standing.verdict;
+    let pieces = [
+        Text::Quoted(client),
+        Text::Word(front(verdict, standing.by_inode)),
+        Text::Access(MdsAccess::One(access)),
+        Text::Word(" "),
+        Text::Path(path),
+    ];
+    print_texts(text, &pieces)?;
+    print_mds_reason(text, verdict)?;
+    print_str(text, "\n")
 }
 
 // What stands before the access.
@@ -93,12 +97,15 @@ pub fn print_mds_unread(
 ) -> Result<(), AllocError>
     ensures { OnOk result (text.new.items ≡ text.old.items ++ mds_unread_line client.now release at) }
 {
-    let version = release.version();
-    print_quoted(text, client)?;
-    print(
-        text,
-        format_args!(": grants: not read by Ceph {version} at {at}\n"),
-    )
+    let pieces = [
+        Text::Quoted(client),
+        Text::Word(": grants: not read by Ceph "),
+        Text::Word(release.version()),
+        Text::Word(" at "),
+        Text::Number(at as u64),
+        Text::Word("\n"),
+    ];
+    print_texts(text, &pieces)
 }
 
 /// Appends the object that says the same of a client, and what was asked of which release. It is a line, with its line feed. `AllocError` where no
@@ -112,10 +119,15 @@ pub fn print_mds_standing_object(
     ensures line { OnOk result (lines.new.items ≡ lines.old.items ++ mds_standing_object client.now wanted.now standing.now) }
     ensures reads { OnOk result (ReadsBack (mds_standing_value client.now wanted.now standing.now)) }
 {
-    let alloc = *lines.allocator();
-    let mut members = members_of(alloc, client, wanted)?;
-    put_mds_standing(&mut members, alloc, wanted, standing)?;
-    print_object(lines, members)
+    let verdict = &standing.verdict;
+    let table = [
+        ("mds", Piece::Word(wanted.release.version())),
+        ("verdict", Piece::Word(word(verdict, standing.by_inode))),
+        ("grant", grant_piece(verdict)),
+        ("rules", failures_piece(verdict)),
+        ("refused_by_client", count_if(standing.refused)),
+    ];
+    print_wanted(lines, client, wanted, &table)
 }
 
 /// Appends the object of a client whose grants the release does not read. It is a line, with its line feed. `AllocError` where no memory is left for
@@ -129,21 +141,28 @@ pub fn print_mds_unread_object(
     ensures line { OnOk result (lines.new.items ≡ lines.old.items ++ mds_unread_object client.now wanted.now at) }
     ensures reads { OnOk result (ReadsBack (mds_unread_value client.now wanted.now at)) }
 {
-    let alloc = *lines.allocator();
-    let mut members = members_of(alloc, client, wanted)?;
-    put_unread(&mut members, alloc, wanted, at)?;
-    print_object(lines, members)
+    let table = [
+        ("mds", Piece::Word(wanted.release.version())),
+        ("verdict", Piece::Word("unread")),
+        ("at", Piece::Number(at as u64)),
+    ];
+    print_wanted(lines, client, wanted, &table)
 }
 
-// The client, and what is asked of it.
-fn members_of(alloc: Global, client: &[u8], wanted: &MdsWanted<'_>) -> Result<Members, AllocError>
-    ensures { IfOk result (λ members. members_view members.entries ≡ with_client client.now (wanted_of wanted.now) wanted.now.known no_members) }
+// Appends the object with the client, what is asked of it, and these members, as a line.
+fn print_wanted(
+    lines: &mut Vec<u8>,
+    client: &[u8],
+    wanted: &MdsWanted<'_>,
+    table: &[(&str, Piece<'_>)],
+) -> Result<(), AllocError>
+    ensures line { OnOk result (lines.new.items
+        ≡ lines.old.items ++ json_line (client_value client.now (wanted_of wanted.now) wanted.now.known (table_of table.now))) }
+    ensures reads { OnOk result (ReadsBack (client_value client.now (wanted_of wanted.now) wanted.now.known (table_of table.now))) }
 {
-    let names = wanted.path.names(alloc)?;
-    let mut members = Map::new(alloc);
+    let names = wanted.path.names(*lines.allocator())?;
     let asked = wanted_of(wanted, names.as_slice());
-    put_client(&mut members, alloc, client, &asked, wanted.known)?;
-    Ok(members)
+    print_asked(lines, client, &asked, wanted.known, table)
 }
 
 // What is asked, by the names of the path.
@@ -158,27 +177,6 @@ fn wanted_of<'a>(wanted: &'a MdsWanted<'_>, path: &'a [&'a [u8]]) -> Wanted<'a>
     }
 }
 
-// Adds which MDS it is, and what it says.
-fn put_mds_standing(
-    members: &mut Members,
-    alloc: Global,
-    wanted: &MdsWanted<'_>,
-    standing: &MdsStanding,
-) -> Result<(), AllocError>
-    ensures { OnOk result (members_view members.new.entries
-        ≡ with_all (mds_standing_table wanted.now.release standing.now) (members_view members.old.entries)) }
-{
-    let verdict = &standing.verdict;
-    let table = [
-        ("mds", Piece::Word(wanted.release.version())),
-        ("verdict", Piece::Word(word(verdict, standing.by_inode))),
-        ("grant", grant_piece(verdict)),
-        ("rules", failures_piece(verdict)),
-        ("refused_by_client", count_if(standing.refused)),
-    ];
-    put_all(members, alloc, &table)
-}
-
 fn word(verdict: &Verdict, by_inode: bool) -> &'static str
     ensures { result.now ≡ mds_standing_word verdict.now by_inode }
 {
@@ -190,21 +188,4 @@ fn word(verdict: &Verdict, by_inode: bool) -> &'static str
         (Verdict::CannotMount, _) => "cannot-mount",
         (Verdict::Denied { .. }, _) => "denied",
     }
-}
-
-// Adds up to where the release reads the grants.
-fn put_unread(
-    members: &mut Members,
-    alloc: Global,
-    wanted: &MdsWanted<'_>,
-    at: usize,
-) -> Result<(), AllocError>
-    ensures { OnOk result (members_view members.new.entries ≡ with_all (mds_unread_table wanted.now.release at) (members_view members.old.entries)) }
-{
-    let table = [
-        ("mds", Piece::Word(wanted.release.version())),
-        ("verdict", Piece::Word("unread")),
-        ("at", Piece::Number(at as u64)),
-    ];
-    put_all(members, alloc, &table)
 }

@@ -1,8 +1,9 @@
 //! What is said of the clients of a cluster.
 ghost use Rattle.std.specs.Prelude.{◌≡◌, ◌++◌, OnOk};
 ghost use Rattle.serde_json.specs.View.{members_view};
-ghost use Rattle.texts.specs.Standings.{fault_table, standing_object, standing_table, standing_value, unread_object, unread_value, with_client};
-ghost use Rattle.texts.specs.Values.{ReadsBack, with_all};
+ghost use Rattle.texts.specs.Pieces.{table_of};
+ghost use Rattle.texts.specs.Standings.{client_value, standing_object, standing_table, standing_value, unread_object, unread_value, with_client};
+ghost use Rattle.texts.specs.Values.{ReadsBack, json_line, with_all};
 
 use crate::mds_answer::put_others;
 use crate::question_object::{put_attr, put_place};
@@ -50,15 +51,34 @@ pub fn print_unread_object(
     ensures line { OnOk result (lines.new.items ≡ lines.old.items ++ unread_object client.now wanted.now attr.now fault.now) }
     ensures reads { OnOk result (ReadsBack (unread_value client.now wanted.now attr.now fault.now)) }
 {
+    let table = [
+        ("verdict", Piece::Word("unread")),
+        ("fault", Piece::Word(fault_word(fault.kind))),
+        ("at", Piece::Number(fault.at as u64)),
+    ];
+    print_asked(lines, client, wanted, attr, &table)
+}
+
+/// Appends the object with the client, what is asked of it, and these members, as a line.
+pub(crate) fn print_asked(
+    lines: &mut Vec<u8>,
+    client: &[u8],
+    wanted: &Wanted<'_>,
+    attr: &Option<Attr>,
+    table: &[(&str, Piece<'_>)],
+) -> Result<(), AllocError>
+    ensures line { OnOk result (lines.new.items ≡ lines.old.items ++ json_line (client_value client.now wanted.now attr.now (table_of table.now))) }
+    ensures reads { OnOk result (ReadsBack (client_value client.now wanted.now attr.now (table_of table.now))) }
+{
     let alloc = *lines.allocator();
     let mut members = Map::new(alloc);
     put_client(&mut members, alloc, client, wanted, attr)?;
-    put_fault(&mut members, alloc, fault)?;
+    put_all(&mut members, alloc, table)?;
     print_object(lines, members)
 }
 
-/// Adds the client, and what is asked of it.
-pub(crate) fn put_client(
+// Adds the client, and what is asked of it.
+fn put_client(
     members: &mut Members,
     alloc: Global,
     client: &[u8],
@@ -84,16 +104,4 @@ fn put_standing(members: &mut Members, alloc: Global, standing: &Standing) -> Re
         Standing::Depends { grant } => put_allowing(members, alloc, "depends", *grant),
         Standing::Denied { rules } => put_denial(members, alloc, rules.as_slice()),
     }
-}
-
-// Adds what is wrong with a text of grants, and where.
-fn put_fault(members: &mut Members, alloc: Global, fault: &SpecFault) -> Result<(), AllocError>
-    ensures { OnOk result (members_view members.new.entries ≡ with_all (fault_table fault.now) (members_view members.old.entries)) }
-{
-    let table = [
-        ("verdict", Piece::Word("unread")),
-        ("fault", Piece::Word(fault_word(fault.kind))),
-        ("at", Piece::Number(fault.at as u64)),
-    ];
-    put_all(members, alloc, &table)
 }

@@ -3,9 +3,11 @@ ghost use Rattle.std.specs.Prelude.{◌≡◌, ◌++◌, OnOk, map};
 ghost use Rattle.texts.specs.Standing.{fault_word, standing_line, standing_others, standing_reason, standing_word, unread_line};
 
 use crate::explain_text::print_failures;
+use crate::line_text::{Text, print_texts};
+use crate::mds_asked::MdsAccess;
 use crate::mds_text::print_others;
-use crate::quoting::{print_quoted, print_quoted_path};
-use capbits::{print, print_numbered, print_str};
+use crate::quoting::print_quoted;
+use capbits::{print_numbered, print_str};
 use capgrant::Access;
 use capspec::{SpecFault, SpecFaultKind};
 use policy_analysis::Standing;
@@ -14,21 +16,25 @@ use std::alloc::AllocError;
 
 /// Appends the line for a client: whether somebody behind its key may make the access to the inode with these names from the root
 /// down, and by which grant or rules. `AllocError` where no memory is left for it; some of it may stand in the text then.
-pub fn print_standing(
+pub fn print_standing<'x>(
     text: &mut Vec<u8>,
-    client: &[u8],
+    client: &'x [u8],
     access: Access,
-    path: &[&[u8]],
+    path: &'x [&'x [u8]],
     standing: &Standing,
 ) -> Result<(), AllocError>
     ensures { OnOk result (text.new.items ≡ text.old.items ++ standing_line client.now access (map (λ name. name.now) path.now) standing.now) }
 {
-    let word = word(standing);
-    print_quoted(text, client)?;
-    print(text, format_args!("{word}{access} "))?;
-    print_quoted_path(text, path)?;
+    let pieces = [
+        Text::Quoted(client),
+        Text::Word(word(standing)),
+        Text::Access(MdsAccess::One(access)),
+        Text::Word(" "),
+        Text::Path(path),
+    ];
+    print_texts(text, &pieces)?;
     print_by(text, standing)?;
-    Ok(text.push(b'\n')?)
+    print_str(text, "\n")
 }
 
 /// Appends a line of the client's for each answer by which releases let in somebody behind its key where nobody may, or nobody where somebody
@@ -77,9 +83,15 @@ fn print_by(text: &mut Vec<u8>, standing: &Standing) -> Result<(), AllocError>
 pub fn print_unread(text: &mut Vec<u8>, client: &[u8], fault: &SpecFault) -> Result<(), AllocError>
     ensures { OnOk result (text.new.items ≡ text.old.items ++ unread_line client.now fault.now) }
 {
-    let (word, at) = (fault_word(fault.kind), fault.at);
-    print_quoted(text, client)?;
-    print(text, format_args!(": grants: {word} at {at}\n"))
+    let pieces = [
+        Text::Quoted(client),
+        Text::Word(": grants: "),
+        Text::Word(fault_word(fault.kind)),
+        Text::Word(" at "),
+        Text::Number(fault.at as u64),
+        Text::Word("\n"),
+    ];
+    print_texts(text, &pieces)
 }
 
 /// The word for what is wrong with a text of grants.

@@ -1,10 +1,16 @@
-use Rattle.std.proofs.Common.{◌≡◌, ℕ, refl, arith, ap, inr, ◌++◌, ◌∙◌, take, drop, length, length-append, length-drop}
+use Rattle.std.proofs.Common.{◌≡◌, ℕ, Option, None, Some, refl, sym, arith, ap, inl, inr, ◌++◌, ◌∙◌, take, drop, length, length-append, length-drop}
+use Rattle.std.specs.Prelude.{IfSome}
 use Rattle.std.proofs.lemmas.Bool.{false≢true}
 use Rattle.std.proofs.lemmas.List.{length-take}
 use Rattle.texts.specs.Watched.{inner_of}
 use Rattle.texts.proofs.KnownBytes.{consumed_is_there, consumes_more, consumes_nothing, consumes_stay, front_of, none_consumed}
 use Rattle.texts.proofs.Flags.{still_clear}
 use Rattle.texts.proofs.input.read_script.Goals as goal
+
+-- what holds of any value
+of_any : {A : Type 0} (o : Option A) {P : A → Type 0} → ((x : A) → P x) → IfSome o P
+of_any None all = tt
+of_any (Some x) all = all x
 
 pub loop-buffer-init : goal.loop-buffer-init
 loop-buffer-init g c = record {
@@ -76,3 +82,58 @@ pub returns-clause-fault : goal.returns-clause-fault
 returns-clause-fault g c same =
     let known = g.R.Read.remaining in
     inr (consumed_is_there (known (inner_of c.args.reader.now)) (known (inner_of c.loop-buffer.reader)) c.loop-buffer.script.items 16777216 c.loop-buffer.invariant.taken (omega (arith, c.len.ensures)))
+
+-- ---- a read that failed
+
+pub returns-in-Err-clause-unseen : goal.returns-in-Err-clause-unseen
+returns-in-Err-clause-unseen g c same = absurd cc
+
+pub returns-in-Err-clause-reported : goal.returns-in-Err-clause-reported
+returns-in-Err-clause-reported g c failed = refl
+
+pub returns-in-Err-clause-long : goal.returns-in-Err-clause-long
+returns-in-Err-clause-long g c = of_any (g.R.Read.remaining (inner_of c.args.reader.now)) (λ script more. inl refl)
+
+pub returns-in-Err-clause-err : goal.returns-in-Err-clause-err
+returns-in-Err-clause-err g c = inl refl
+
+-- ---- want of memory
+
+pub returns-then-is_err-clause-reported : goal.returns-then-is_err-clause-reported
+returns-then-is_err-clause-reported g c failed =
+    absurd (false≢true (sym (still_clear _ _ c.in-Ok.ensures.flag (λ bad. false≢true bad) c.loop-buffer.invariant.clear) ∙ failed))
+
+pub returns-then-is_err-clause-long : goal.returns-then-is_err-clause-long
+returns-then-is_err-clause-long g c = of_any (g.R.Read.remaining (inner_of c.args.reader.now)) (λ script more. inr refl)
+
+pub returns-then-is_err-clause-fault : goal.returns-then-is_err-clause-fault
+returns-then-is_err-clause-fault g c same = absurd cc
+
+pub returns-then-is_err-clause-err : goal.returns-then-is_err-clause-err
+returns-then-is_err-clause-err g c = inr refl
+
+-- ---- the end
+
+pub returns-then-taken-eq0-clause-unseen : goal.returns-then-taken-eq0-clause-unseen
+returns-then-taken-eq0-clause-unseen g c same = absurd cc
+
+pub returns-then-taken-eq0-clause-reported : goal.returns-then-taken-eq0-clause-reported
+returns-then-taken-eq0-clause-reported g c failed =
+    absurd (false≢true (sym (still_clear _ _ c.in-Ok.ensures.flag (λ bad. false≢true bad) c.loop-buffer.invariant.clear) ∙ failed))
+
+pub returns-then-taken-eq0-clause-fault : goal.returns-then-taken-eq0-clause-fault
+returns-then-taken-eq0-clause-fault g c same = absurd cc
+
+-- ---- a script that is too long
+
+pub returns-clause-unseen : goal.returns-clause-unseen
+returns-clause-unseen g c same = absurd cc
+
+pub returns-clause-reported : goal.returns-clause-reported
+returns-clause-reported g c failed = refl
+
+pub returns-clause-long : goal.returns-clause-long
+returns-clause-long g c = of_any (g.R.Read.remaining (inner_of c.args.reader.now)) (λ script more. inl refl)
+
+pub returns-clause-err : goal.returns-clause-err
+returns-clause-err g c = inl refl
