@@ -6,9 +6,8 @@ ghost use Rattle.cluster_audit.specs.Lines.{alias_line};
 ghost use Rattle.cluster_audit.specs.Shaped.{alias_in};
 
 use crate::known::KnownSession;
-use capbits::{print_numbered, print_str};
 use std::alloc::{AllocError, Global};
-use texts::{Piece, Shape, print_pieces, print_quoted};
+use texts::{Piece, Shape, Text, print_pieces, print_texts};
 
 // A line for each session whose client calls itself otherwise than its key is named.
 pub(crate) fn alias_lines(
@@ -63,18 +62,22 @@ fn print_alias<'x>(
 }
 
 // Appends it as a line for people.
-fn print_alias_line(
+fn print_alias_line<'x>(
     text: &mut Vec<u8>,
     session: u64,
-    client: &[u8],
-    alias: &[u8],
+    client: &'x [u8],
+    alias: &'x [u8],
 ) -> Result<(), AllocError>
     ensures { OnOk result (text.new.items ≡ text.old.items ++ alias_line session client.now alias.now) }
 {
-    print_numbered(text, "session ", session)?;
-    print_str(text, ": ")?;
-    print_quoted(text, client)?;
-    print_str(text, " calls itself ")?;
-    print_quoted(text, alias)?;
-    print_str(text, "\n")
+    let pieces = [
+        Text::Word("session "),
+        Text::Number(session),
+        Text::Word(": "),
+        Text::Quoted(client),
+        Text::Word(" calls itself "),
+        Text::Quoted(alias),
+        Text::Word("\n"),
+    ];
+    print_texts(text, &pieces)
 }

@@ -1,16 +1,14 @@
 //! The lines of an audit.
 ghost use Rattle.std.specs.Prelude.{◌≡◌, ◌++◌, OnOk, codes, map};
-ghost use Rattle.texts.specs.Explaining.{path_text};
-ghost use Rattle.texts.specs.Quoting.{quoted};
 ghost use Rattle.cluster_audit.specs.Findings.{is_unjudged};
 ghost use Rattle.cluster_audit.specs.Lines.{beyond_text, denial_text, group_line, held_line, pathless_line, place_text, revoked_text, unjudged_text, unknown_line, unknown_text, who_text, why_text};
 
 use crate::findings::{Denial, Finding, rules_there};
 use crate::held::Held;
 use crate::unjudged::Unknown;
-use capbits::{CapSet, print_caps, print_numbered, print_str};
+use capbits::{CapSet, print_str};
 use std::alloc::AllocError;
-use texts::{print_failures, print_mds_failures, print_path, print_quoted};
+use texts::{Text, print_failures, print_mds_failures, print_texts};
 
 // Appends the line for a client that holds of an inode what nobody behind its key is permitted.
 pub(crate) fn print_held(
@@ -47,40 +45,39 @@ pub(crate) fn print_group(
     ensures { OnOk result (text.new.items ≡ text.old.items ++ group_line client.now found.now) }
 {
     print_why(text, found)?;
-    print_str(text, " ")?;
-    print_quoted(text, client)?;
-    print_str(text, "\n")
+    let end = [Text::Word(" "), Text::Quoted(client), Text::Word("\n")];
+    print_texts(text, &end)
 }
 
 // Appends where something is held and by whom.
-fn print_place(
+fn print_place<'x>(
     text: &mut Vec<u8>,
-    path: &[&[u8]],
-    client: &[u8],
+    path: &'x [&'x [u8]],
+    client: &'x [u8],
     session: u64,
 ) -> Result<(), AllocError>
     ensures { OnOk result (text.new.items ≡ text.old.items ++ place_text (map (λ name. name.now) path.now) client.now session) }
 {
-    print_at(text, path)?;
-    print_str(text, " ")?;
-    print_who(text, client, session)
-}
-
-// Appends a path, in quotes where it has to be.
-pub(crate) fn print_at(text: &mut Vec<u8>, path: &[&[u8]]) -> Result<(), AllocError>
-    ensures { OnOk result (text.new.items ≡ text.old.items ++ quoted (path_text (map (λ name. name.now) path.now))) }
-{
-    let mut names = Vec::new(*text.allocator());
-    print_path(&mut names, path)?;
-    print_quoted(text, names.as_slice())
+    let pieces = [
+        Text::Path(path),
+        Text::Word(" "),
+        Text::Quoted(client),
+        Text::Word(" session "),
+        Text::Number(session),
+    ];
+    print_texts(text, &pieces)
 }
 
 // Appends a client and the number of its session.
 pub(crate) fn print_who(text: &mut Vec<u8>, client: &[u8], session: u64) -> Result<(), AllocError>
     ensures { OnOk result (text.new.items ≡ text.old.items ++ who_text client.now session) }
 {
-    print_quoted(text, client)?;
-    print_numbered(text, " session ", session)
+    let who = [
+        Text::Quoted(client),
+        Text::Word(" session "),
+        Text::Number(session),
+    ];
+    print_texts(text, &who)
 }
 
 // Appends what is held, what of it nobody is permitted, and why.
@@ -92,10 +89,13 @@ fn print_beyond(
 ) -> Result<(), AllocError>
     ensures { OnOk result (text.new.items ≡ text.old.items ++ beyond_text issued pending found.now) }
 {
-    print_str(text, " holds ")?;
-    print_caps(text, issued)?;
-    print_str(text, ", may not ")?;
-    print_caps(text, found.caps)?;
+    let pieces = [
+        Text::Word(" holds "),
+        Text::Caps(issued),
+        Text::Word(", may not "),
+        Text::Caps(found.caps),
+    ];
+    print_texts(text, &pieces)?;
     print_revoked(text, found.caps.minus(pending))?;
     print_str(text, ": ")?;
     print_why(text, found)
@@ -108,9 +108,12 @@ fn print_revoked(text: &mut Vec<u8>, revoked: CapSet) -> Result<(), AllocError>
     if revoked.is_empty() {
         return Ok(());
     }
-    print_str(text, " (being revoked: ")?;
-    print_caps(text, revoked)?;
-    print_str(text, ")")
+    let pieces = [
+        Text::Word(" (being revoked: "),
+        Text::Caps(revoked),
+        Text::Word(")"),
+    ];
+    print_texts(text, &pieces)
 }
 
 // Appends by which rules the grants deny the access that is missing.
@@ -146,8 +149,11 @@ pub(crate) fn print_unknown_line(
     ensures { OnOk result (text.new.items ≡ text.old.items ++ unknown_line unknown (map (λ name. name.now) path.now) client.now session) }
 {
     print_place(text, path, client, session)?;
-    print_str(text, " holds what is ")?;
-    print_str(text, unknown_text(unknown))
+    let what = [
+        Text::Word(" holds what is "),
+        Text::Word(unknown_text(unknown)),
+    ];
+    print_texts(text, &what)
 }
 
 fn unknown_text(unknown: Unknown) -> &'static str
@@ -160,19 +166,25 @@ fn unknown_text(unknown: Unknown) -> &'static str
 }
 
 // Appends that a client holds something of an inode to which no path leads.
-pub(crate) fn print_pathless_line(
+pub(crate) fn print_pathless_line<'x>(
     text: &mut Vec<u8>,
     number: u64,
-    client: &[u8],
+    client: &'x [u8],
     session: u64,
-    issued: &[u8],
+    issued: &'x [u8],
 ) -> Result<(), AllocError>
     ensures { OnOk result (text.new.items ≡ text.old.items ++ pathless_line number client.now session issued.now) }
 {
-    print_numbered(text, "inode ", number)?;
-    print_str(text, ": no path: ")?;
-    print_who(text, client, session)?;
-    print_str(text, " holds ")?;
-    print_quoted(text, issued)?;
-    print_str(text, "\n")
+    let pieces = [
+        Text::Word("inode "),
+        Text::Number(number),
+        Text::Word(": no path: "),
+        Text::Quoted(client),
+        Text::Word(" session "),
+        Text::Number(session),
+        Text::Word(" holds "),
+        Text::Quoted(issued),
+        Text::Word("\n"),
+    ];
+    print_texts(text, &pieces)
 }

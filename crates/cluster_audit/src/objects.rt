@@ -9,10 +9,10 @@ ghost use Rattle.cluster_audit.specs.Objects.{access_value, caps_or_null, confli
 use crate::findings::{Denial, Finding, rules_there};
 use crate::held::{Held, NamedConflict};
 use crate::notes::Detail;
-use capbits::{CapSet, print_numbered, print_str};
+use capbits::CapSet;
 use capgrant::Access;
 use std::alloc::AllocError;
-use texts::{MdsAccess, Piece, print_pieces};
+use texts::{MdsAccess, Piece, Text, print_pieces, print_texts};
 
 // How many members of what is found those of one client and one reason have in common, and how many those of two clients in conflict
 // by the same caps.
@@ -91,10 +91,14 @@ pub(crate) fn print_group_object(
 ) -> Result<(), AllocError>
     ensures { OnOk result (text.new.items ≡ text.old.items ++ group_object count each.now) }
 {
-    print_numbered(text, "{\"count\":", count)?;
-    print_str(text, ",\"each\":")?;
-    text.extend_from_slice(each)?;
-    print_str(text, ",\"kind\":\"group\"}\n")
+    let pieces = [
+        Text::Word("{\"count\":"),
+        Text::Number(count),
+        Text::Word(",\"each\":"),
+        Text::Bytes(each),
+        Text::Word(",\"kind\":\"group\"}\n"),
+    ];
+    print_texts(text, &pieces)
 }
 
 // By which rules the grants deny the access that is missing. Null where no access permits it.

@@ -7,9 +7,8 @@ ghost use Rattle.cluster_audit.specs.Order.{AreCounted, AreInOrder, counted_line
 ghost use Rattle.cluster_audit.specs.Shaped.{counted_in};
 
 use crate::objects::print_group_object;
-use capbits::{print_numbered, print_str};
 use std::alloc::{AllocError, Global};
-use texts::{Shape, split_line};
+use texts::{Shape, Text, print_texts, split_line};
 
 // The lines of a text, each once, in the order of their bytes, which is first that of paths.
 pub(crate) fn in_order(alloc: Global, text: &[u8]) -> Result<Vec<u8>, AllocError>
@@ -58,11 +57,15 @@ fn print_counted(
     ensures { OnOk result (text.new.items ≡ text.old.items ++ counted_in shape line.now count) }
 {
     match shape {
-        Shape::Lines => {
-            text.extend_from_slice(line)?;
-            print_numbered(text, ": ", count)?;
-            print_str(text, "\n")
-        }
+        Shape::Lines => print_texts(
+            text,
+            &[
+                Text::Bytes(line),
+                Text::Word(": "),
+                Text::Number(count),
+                Text::Word("\n"),
+            ],
+        ),
         Shape::Objects => print_group_object(text, count, line),
     }
 }

@@ -7,15 +7,15 @@ ghost use Rattle.cluster_audit.specs.Lines.{beside_text, conflict_line, holder_t
 use crate::clients::ClusterClients;
 use crate::conflict::{Conflict, Holding, conflicts};
 use crate::held::NamedConflict;
-use crate::lines::{print_at, print_who};
+use crate::lines::print_who;
 use crate::notes::{Detail, Manner};
 use crate::objects::print_conflict_object;
 use cap_text::read_caps;
-use capbits::{Numbered, print_caps, print_numbered, print_str};
+use capbits::{Numbered, print_numbered, print_str};
 use capspec::TreePath;
 use ceph_input::{Holder, TreeInode};
 use std::alloc::{AllocError, Global};
-use texts::{Shape, print_quoted};
+use texts::{Shape, Text, print_quoted, print_texts};
 
 // A line for each pair of sessions that hold of one of these inodes what no two may hold together.
 pub(crate) fn conflict_lines(
@@ -152,21 +152,26 @@ fn print_on(
         return Ok(());
     }
     match path {
-        None => print_numbered(text, "inode ", number)?,
-        Some(path) => print_at(text, path)?,
+        None => print_texts(
+            text,
+            &[Text::Word("inode "), Text::Number(number), Text::Word(" ")],
+        ),
+        Some(path) => print_texts(text, &[Text::Path(path), Text::Word(" ")]),
     }
-    print_str(text, " ")
 }
 
 // Appends what the one holds beside what the other holds.
 fn print_beside(text: &mut Vec<u8>, conflict: &Conflict) -> Result<(), AllocError>
     ensures { OnOk result (text.new.items ≡ text.old.items ++ beside_text conflict.now) }
 {
-    print_str(text, " holds ")?;
-    print_caps(text, conflict.one.caps)?;
-    print_str(text, " beside ")?;
-    print_caps(text, conflict.other.caps)?;
-    print_str(text, " of ")
+    let pieces = [
+        Text::Word(" holds "),
+        Text::Caps(conflict.one.caps),
+        Text::Word(" beside "),
+        Text::Caps(conflict.other.caps),
+        Text::Word(" of "),
+    ];
+    print_texts(text, &pieces)
 }
 
 // Appends the number of a session, behind the name that it may tell. Among groups a name stands alone.

@@ -7,10 +7,9 @@ ghost use Rattle.cluster_audit.specs.Summary.{counts_of, entry_count, line_count
 
 use crate::known::KnownSession;
 use crate::notes::Notes;
-use capbits::{print_numbered, print_str};
 use ceph_input::TreeInode;
 use std::alloc::{AllocError, Global};
-use texts::{Piece, Shape, print_pieces};
+use texts::{Piece, Shape, Text, print_pieces, print_texts};
 
 // How many inodes, entries and sessions the texts have, and how many lines there are of each kind.
 #[derive(Clone, Copy)]
@@ -52,13 +51,22 @@ fn counts_line(alloc: Global, counts: &Counts) -> Result<Vec<u8>, AllocError>
     ensures { IfOk result (λ line. line.items ≡ counts_line counts.now) }
 {
     let mut line = Vec::new(alloc);
-    print_numbered(&mut line, "inodes ", counts.inodes)?;
-    print_numbered(&mut line, ", entries ", counts.entries)?;
-    print_numbered(&mut line, ", sessions ", counts.sessions)?;
-    print_numbered(&mut line, ", held beyond ", counts.held_beyond)?;
-    print_numbered(&mut line, ", conflicts ", counts.conflicts)?;
-    print_numbered(&mut line, ", not judged ", counts.not_judged)?;
-    print_str(&mut line, "\n")?;
+    let pieces = [
+        Text::Word("inodes "),
+        Text::Number(counts.inodes),
+        Text::Word(", entries "),
+        Text::Number(counts.entries),
+        Text::Word(", sessions "),
+        Text::Number(counts.sessions),
+        Text::Word(", held beyond "),
+        Text::Number(counts.held_beyond),
+        Text::Word(", conflicts "),
+        Text::Number(counts.conflicts),
+        Text::Word(", not judged "),
+        Text::Number(counts.not_judged),
+        Text::Word("\n"),
+    ];
+    print_texts(&mut line, &pieces)?;
     Ok(line)
 }
 

@@ -6,9 +6,10 @@ ghost use Rattle.cluster_audit.specs.Objects.{unknown_word};
 use crate::grants_by::Unreadable;
 use crate::held::Entry;
 use crate::lines::{print_pathless_line, print_unknown_line};
-use capbits::{print_numbered, print_str};
 use std::alloc::AllocError;
-use texts::{Piece, Shape, fault_word, print_mds_unread, print_pieces, print_quoted, print_unread};
+use texts::{
+    Piece, Shape, Text, fault_word, print_mds_unread, print_pieces, print_texts, print_unread,
+};
 
 /// What is not known of what a client holds.
 #[derive(Clone, Copy)]
@@ -24,10 +25,14 @@ pub(crate) fn print_unnamed(text: &mut Vec<u8>, shape: Shape, number: u64) -> Re
     ensures { OnOk result (text.new.items ≡ text.old.items ++ unnamed_in shape number) }
 {
     match shape {
-        Shape::Lines => {
-            print_numbered(text, "client ", number)?;
-            print_str(text, ": no session names it\n")
-        }
+        Shape::Lines => print_texts(
+            text,
+            &[
+                Text::Word("client "),
+                Text::Number(number),
+                Text::Word(": no session names it\n"),
+            ],
+        ),
         Shape::Objects => print_pieces(
             text,
             &[
@@ -47,10 +52,13 @@ pub(crate) fn print_unlisted(
     ensures { OnOk result (text.new.items ≡ text.old.items ++ unlisted_in shape client.now) }
 {
     match shape {
-        Shape::Lines => {
-            print_quoted(text, client)?;
-            print_str(text, ": no entry in the auth list\n")
-        }
+        Shape::Lines => print_texts(
+            text,
+            &[
+                Text::Quoted(client),
+                Text::Word(": no entry in the auth list\n"),
+            ],
+        ),
         Shape::Objects => print_pieces(
             text,
             &[

@@ -5,12 +5,11 @@ ghost use Rattle.cluster_audit.specs.Audited.{says_of_prior};
 ghost use Rattle.cluster_audit.specs.Lines.{unlinked_line};
 ghost use Rattle.cluster_audit.specs.Shaped.{unlinked_in};
 
-use crate::lines::print_at;
-use capbits::{Numbered, print_numbered, print_str};
+use capbits::Numbered;
 use capspec::TreePath;
 use ceph_input::TreeInode;
 use std::alloc::{AllocError, Global};
-use texts::{Piece, Shape, print_pieces};
+use texts::{Piece, Shape, Text, print_pieces, print_texts};
 
 // A line for each of these inodes that was unlinked, where somebody holds something of it.
 pub(crate) fn unlinked_lines(
@@ -73,8 +72,12 @@ fn print_unlinked<'x>(
 fn print_unlinked_line(text: &mut Vec<u8>, number: u64, path: &[&[u8]]) -> Result<(), AllocError>
     ensures { OnOk result (text.new.items ≡ text.old.items ++ unlinked_line number (map (λ name. name.now) path.now)) }
 {
-    print_numbered(text, "inode ", number)?;
-    print_str(text, ": unlinked, judged as ")?;
-    print_at(text, path)?;
-    print_str(text, "\n")
+    let pieces = [
+        Text::Word("inode "),
+        Text::Number(number),
+        Text::Word(": unlinked, judged as "),
+        Text::Path(path),
+        Text::Word("\n"),
+    ];
+    print_texts(text, &pieces)
 }
