@@ -1,5 +1,6 @@
 //! The talks of a file.
 
+use crate::lines::lines_of;
 use crate::run::{Program, Run};
 use crate::talk_fault::{Place, TalkFault};
 use crate::talk_line::Line;
@@ -12,6 +13,8 @@ pub struct Talk<'a> {
     /// The number of the line that names it.
     pub line: usize,
     pub runs: Vec<Run>,
+    // The lines that its runs are made of.
+    lines: Vec<Line<'a>>,
     // Whether something is asked in this talk itself.
     asks: bool,
 }
@@ -23,14 +26,16 @@ impl Drop for Talk<'_> {
             name: _,
             line: _,
             runs: _,
+            lines: _,
             asks: _,
         } = self;
     }
 }
 
-impl Talk<'_> {
+impl<'a> Talk<'a> {
     // One line more. A command begins a run, and so does a line that is asked before any command: that of a script.
-    fn take(&mut self, alloc: Global, line: Line<'_>) -> Result<(), TalkFault> {
+    fn take(&mut self, alloc: Global, line: Line<'a>) -> Result<(), TalkFault> {
+        self.lines.push(line)?;
         match line {
             Line::Command(program, words) => self.begin_run(alloc, program, words)?,
             Line::Asked(_) if self.runs.is_empty() => {
@@ -60,16 +65,23 @@ impl Talk<'_> {
 
 /// Reads the talks of a file, in its order.
 pub fn read_talks<'a>(alloc: Global, text: &'a [u8]) -> Result<Vec<Talk<'a>>, Place> {
+    let Ok(lines) = lines_of(alloc, text) else {
+        return Err(TalkFault::NoMemory.at(0));
+    };
     let mut talks = Vec::new(alloc);
+    take_all(alloc, &mut talks, lines.as_slice())?;
+    Ok(talks)
+}
+
+fn take_all<'a>(alloc: Global, talks: &mut Vec<Talk<'a>>, lines: &[&'a [u8]]) -> Result<(), Place> {
     let mut number = 0usize;
-    for text in text.split(|byte| *byte == b'\n') {
+    for text in lines {
         number = number.saturating_add(1);
-        if let Err(fault) = take(alloc, &mut talks, number, text) {
+        if let Err(fault) = take(alloc, talks, number, *text) {
             return Err(fault.at(number));
         }
     }
-    all_ask(talks.as_slice())?;
-    Ok(talks)
+    all_ask(talks.as_slice())
 }
 
 // One line more, of this number.
@@ -82,7 +94,7 @@ fn take<'a>(
     match Line::read(text)? {
         Line::Remark => Ok(()),
         Line::Talk(name) => begin(alloc, talks, number, name),
-        Line::Begins(name) => begin_by(talks.as_mut_slice(), name),
+        Line::Begins(name) => begin_by(alloc, talks.as_mut_slice(), name),
         line => match talks.last_mut() {
             Some(talk) => talk.take(alloc, line),
             None => Err(TalkFault::NotUnderstood),
@@ -104,23 +116,27 @@ fn begin<'a>(
         name,
         line,
         runs: Vec::new(alloc),
+        lines: Vec::new(alloc),
         asks: false,
     })?;
     Ok(())
 }
 
-// The last talk begins with the runs of the earlier one of this name. Nothing stands before that.
-fn begin_by(talks: &mut [Talk<'_>], name: &[u8]) -> Result<(), TalkFault> {
+// The last talk begins with the lines of the earlier one of this name. Nothing stands before that.
+fn begin_by(alloc: Global, talks: &mut [Talk<'_>], name: &[u8]) -> Result<(), TalkFault> {
     let Some((talk, earlier)) = talks.split_last_mut() else {
         return Err(TalkFault::NotUnderstood);
     };
     if !talk.runs.is_empty() {
         return Err(TalkFault::NotUnderstood);
     }
-    match find(earlier, name) {
-        Some(earlier) => talk.runs = earlier.runs.clone()?,
-        None => return Err(TalkFault::NoEarlier),
+    let Some(earlier) = find(earlier, name) else {
+        return Err(TalkFault::NoEarlier);
+    };
+    for line in earlier.lines.as_slice() {
+        talk.take(alloc, *line)?;
     }
+    talk.asks = false;
     Ok(())
 }
 

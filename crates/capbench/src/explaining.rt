@@ -3,7 +3,6 @@
 
 use crate::fault::Fault;
 use crate::lines::event_of;
-use crate::server_work::{Asking, Way};
 use crate::serving::call;
 use capbits::{ClientId, Ino, Mode, PassId};
 use capgrant::{Access, Verdict};
@@ -13,7 +12,6 @@ use inotree::Setting;
 use lockmachine::Change;
 use policy_view::{Question, Unknown};
 use snapshot::Server;
-use std::alloc::Global;
 use std::sync::atomic::{AtomicU64, Ordering};
 use std::sync::{Mutex, MutexGuard, Wait};
 use std::thread::{Threads, map_vec};
@@ -27,17 +25,38 @@ const STRIDE: u64 = 7919;
 /// The modes that are set by turns.
 const MODES: [u16; 2] = [0o700, 0o755];
 
+/// How threads ask questions.
+#[derive(Clone, Copy)]
+pub(crate) struct Asking {
+    /// How many threads ask.
+    pub(crate) readers: u32,
+    /// How many inodes they ask about, which are numbered from 2 on.
+    pub(crate) inodes: u32,
+    /// How many questions each of them asks.
+    pub(crate) times: u32,
+    /// Whether they wait for the thread that calls.
+    pub(crate) way: Way,
+}
+
+/// How threads ask beside one that calls events.
+#[derive(Clone, Copy)]
+pub(crate) enum Way {
+    /// They ask the server, which takes no lock for a question.
+    Beside,
+    /// They take a lock for each question, as the thread does that calls for each event.
+    Locked,
+}
+
 /// Has the last pass call what the lines of a script say, and then change modes until all others have asked their questions, each in a
 /// thread of its own. Returns how many questions were answered with yes.
-pub(crate) fn explain<L: Server + Send + Sync, T: Threads + Wait + Sync>(
+pub(crate) fn explain<L: Server + Send + Sync, T: AllocGlobal + Threads + Wait + Sync>(
     rt: &T,
-    alloc: Global,
     server: &CapServer<NoGate, L>,
     mut passes: Vec<Pass<L>>,
     asking: Asking,
     lines: &[&[u8]],
 ) -> Result<u64, Fault> {
-    call_lines(rt, alloc, server, passes.last_mut(), lines)?;
+    call_lines(rt, server, passes.last_mut(), lines)?;
     let (done, lock) = (AtomicU64::new(0), Mutex::new(()));
     // It needs threads: where none can be made, nobody asks, and the last pass goes on.
     let work = &|pass: Pass<L>| {
@@ -89,9 +108,8 @@ fn inode_at(turn: u32, inodes: u32) -> Ino {
 
 // ---- the thread that calls
 
-fn call_lines<L: Server, T: Wait>(
+fn call_lines<L: Server, T: AllocGlobal + Wait>(
     rt: &T,
-    alloc: Global,
     server: &CapServer<NoGate, L>,
     pass: Option<&mut Pass<L>>,
     lines: &[&[u8]],
@@ -100,8 +118,8 @@ fn call_lines<L: Server, T: Wait>(
         return Err(Fault::Usage);
     };
     for line in lines {
-        let (_, event) = event_of(alloc, line)?;
-        call(rt, server, pass, event)?;
+        let (_, event) = event_of(rt.alloc(), line)?;
+        is_called(rt, server, pass, event)?;
     }
     Ok(())
 }
@@ -122,12 +140,25 @@ fn call_while<L: Server, T: Wait>(
         }
         let event = mode_change(inode_at(turn, asking.inodes), turn);
         let guard = enter(rt, lock, asking.way);
-        let called = call(rt, server, &mut pass, event);
+        let called = is_called(rt, server, &mut pass, event);
         unlock(guard);
         called?;
         turn = turn.wrapping_add(1);
     }
     Ok(0)
+}
+
+// Whether an event was made. What was answered does not matter.
+fn is_called<L: Server, T: Wait>(
+    rt: &T,
+    server: &CapServer<NoGate, L>,
+    pass: &mut Pass<L>,
+    event: Event,
+) -> Result<(), Fault> {
+    match call(rt, server, pass, event) {
+        Ok(_) => Ok(()),
+        Err(stop) => Err(Fault::from(stop)),
+    }
 }
 
 fn mode_change(ino: Ino, turn: u32) -> Event {

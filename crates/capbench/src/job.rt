@@ -204,30 +204,31 @@ impl Answers {
     fn take(&mut self, client: Option<ClientId>, reply: &Reply) -> Result<Heard, Fault> {
         let text = reply_lines(self.alloc, reply)?;
         self.digest.write(text.as_slice());
-        match reply {
-            Reply::Ino(ino) => Ok(Heard::Ino(ino.0)),
-            Reply::Messages(messages) => self.acknowledge(client, messages.as_slice()),
-            Reply::Denied { .. } | Reply::Refused(_) | Reply::Waiting(_) => Ok(Heard::NotDone),
-            _ => Ok(Heard::Done),
-        }
+        self.acknowledge(client, reply)?;
+        Ok(as_heard(reply))
     }
 
     // A client acknowledges each change that it is told of.
-    fn acknowledge(
-        &mut self,
-        client: Option<ClientId>,
-        messages: &[Message],
-    ) -> Result<Heard, Fault> {
-        let Some(client) = client else {
-            return Ok(Heard::Done);
+    fn acknowledge(&mut self, client: Option<ClientId>, reply: &Reply) -> Result<(), AllocError> {
+        let (Some(client), Reply::Messages(messages)) = (client, reply) else {
+            return Ok(());
         };
-        for message in messages {
+        for message in messages.as_slice() {
             if let Message::Caps { ino, seq, .. } = message {
                 let numbers = [u64::from(client.0), ino.0, *seq];
                 fill(&mut self.acks, "ack # # #\n", &numbers, 0)?;
             }
         }
-        Ok(Heard::Done)
+        Ok(())
+    }
+}
+
+// What a client needs of an answer.
+fn as_heard(reply: &Reply) -> Heard {
+    match reply {
+        Reply::Ino(ino) => Heard::Ino(ino.0),
+        Reply::Denied { .. } | Reply::Refused(_) | Reply::Waiting(_) => Heard::NotDone,
+        _ => Heard::Done,
     }
 }
 

@@ -1,39 +1,30 @@
-//! The jobs, by their names.
+//! The jobs.
 
 use crate::directory_moves::move_about;
 use crate::fault::Fault;
 use crate::job::Job;
 use crate::questions::ask_all;
-use crate::scripts::run_script;
+use crate::scripts::{run_script, serve_script};
 use crate::shared_files::share;
 use crate::tenants::serve_tenants;
-use crate::words::meaning;
-use capbits::read_u32;
 use capcore::Core;
 use capscript::file_system;
 use std::alloc::Global;
+use std::sync::Wait;
+use std::thread::Threads;
 
 /// How much work is done, and the seed that it is made from.
 #[derive(Clone, Copy)]
 pub struct Amount {
     /// How often: each job says of what.
     pub count: u32,
+    /// What it is made from.
     pub seed: u32,
-}
-
-impl Amount {
-    /// Reads both numbers.
-    pub fn read(count: &[u8], seed: &[u8]) -> Result<Amount, Fault> {
-        match (read_u32(count), read_u32(seed)) {
-            (Some(count), Some(seed)) => Ok(Amount { count, seed }),
-            _ => Err(Fault::NoJob),
-        }
-    }
 }
 
 /// What the clients of a core do.
 #[derive(Clone, Copy)]
-enum Play {
+pub(crate) enum Play {
     /// Each works in a directory of its own.
     Tenants,
     /// All work on the same files.
@@ -42,33 +33,30 @@ enum Play {
     Moves,
 }
 
-/// A job that takes no server.
+/// A job.
 #[derive(Clone, Copy)]
-enum Kind {
+pub(crate) enum Kind {
     /// Clients talk to a core.
     Played(Play),
     /// A whole script is run.
     Script,
     /// Questions are asked on policy.
     Questions,
+    /// A whole script is served, whose clients call from threads of their own.
+    Serve,
 }
 
-/// The names of the jobs.
-const KINDS: &[(&[u8], Kind)] = &[
-    (b"tenants", Kind::Played(Play::Tenants)),
-    (b"shared", Kind::Played(Play::Shared)),
-    (b"moves", Kind::Played(Play::Moves)),
-    (b"script", Kind::Script),
-    (b"questions", Kind::Questions),
-];
-
-/// Does the job of this name, which takes no server, and returns the digest of all that was answered.
-pub(crate) fn digest_of(alloc: Global, job: &[u8], amount: Amount) -> Result<u64, Fault> {
-    match meaning(KINDS, job) {
-        Some(Kind::Played(play)) => play_rounds(alloc, play, amount),
-        Some(Kind::Script) => run_script(alloc, amount),
-        Some(Kind::Questions) => ask_all(alloc, amount),
-        None => Err(Fault::NoJob),
+/// Does a job, and returns the digest of all that was answered.
+pub(crate) fn digest_of(
+    rt: &(impl AllocGlobal + Threads + Wait + Sync),
+    job: Kind,
+    amount: Amount,
+) -> Result<u64, Fault> {
+    match job {
+        Kind::Played(play) => play_rounds(rt.alloc(), play, amount),
+        Kind::Script => run_script(rt.alloc(), amount),
+        Kind::Questions => ask_all(rt.alloc(), amount),
+        Kind::Serve => serve_script(rt, amount),
     }
 }
 

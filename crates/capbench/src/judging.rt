@@ -3,7 +3,6 @@ ghost use Rattle.std.specs.Prelude.{◌≡◌};
 ghost use Rattle.capbench.specs.Score.{score};
 
 use crate::fault::Fault;
-use crate::work::GrantWork;
 use capbits::{Caller, Groups, Mode};
 use capgrant::{Access, Attr, Verdict, verdict};
 use capspec::{FsName, Grants, read_grants};
@@ -19,22 +18,9 @@ const GROUP: u32 = 1001;
 
 const MODE: u16 = 0o644;
 
-/// Does the work on a text of grants so many times.
-pub(crate) fn on_grants(
-    alloc: Global,
-    work: GrantWork,
-    text: &[u8],
-    times: u32,
-) -> Result<u64, Fault> {
-    match work {
-        GrantWork::Verdict => judge(alloc, text, times),
-        GrantWork::Parse => read(alloc, text, times),
-    }
-}
-
-// Reads the text of grants once, judges an access to the path of the last of them so many times, and returns the sum of what the verdicts
-// score.
-fn judge(alloc: Global, text: &[u8], times: u32) -> Result<u64, Fault> {
+/// Reads the text of grants once, judges an access to the path of the last of them so many times, and returns the sum of what the verdicts
+/// score.
+pub(crate) fn judge(alloc: Global, text: &[u8], times: u32) -> Result<u64, Fault> {
     let grants = grants_of(alloc, text)?;
     let names = last_path(alloc, &grants)?;
     Ok(judge_often(&grants, names.as_slice(), times))
@@ -76,8 +62,8 @@ fn judge_once(grants: &Grants, fs: &FsName, caller: &Caller, names: &[&[u8]], at
     score(&verdict(grants, fs, caller, names, attr, Access::Write))
 }
 
-// Reads the text of grants so many times, and returns how many grants were read in all.
-fn read(alloc: Global, text: &[u8], times: u32) -> Result<u64, Fault> {
+/// Reads the text of grants so many times, and returns how many grants were read in all.
+pub(crate) fn read(alloc: Global, text: &[u8], times: u32) -> Result<u64, Fault> {
     let mut sum: u64 = 0;
     for _ in 0..times {
         let grants: Grants = read_grants(alloc, text)?;

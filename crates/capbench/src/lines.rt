@@ -15,9 +15,9 @@ pub(crate) const TRIES: u32 = 16;
 
 const PASS: PassId = PassId(1);
 
-/// The lines of a script.
-pub(crate) fn lines_of(alloc: Global, script: &[u8]) -> Result<Vec<&[u8]>, Fault> {
-    Ok(script.split(|byte| *byte == b'\n').collect(alloc)?)
+/// The lines of a text.
+pub(crate) fn lines_of(alloc: Global, text: &[u8]) -> Result<Vec<&[u8]>, AllocError> {
+    text.split(|byte| *byte == b'\n').collect(alloc)
 }
 
 /// The event that a line says, with the client that it is about. Where it finds no memory it is read again.

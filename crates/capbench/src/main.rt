@@ -4,7 +4,6 @@
 #![tactic(auto)]
 
 mod book;
-mod cli_commands;
 mod commands;
 mod digest;
 mod directory_moves;
@@ -22,8 +21,6 @@ mod questions;
 mod retry;
 mod run;
 mod scripts;
-mod server_commands;
-mod server_work;
 mod serving;
 mod shared_files;
 mod streams;
@@ -31,11 +28,9 @@ mod talk_fault;
 mod talk_line;
 mod talk_text;
 mod tenants;
-mod words;
 mod work;
 
-use crate::cli_commands::dispatch;
-use crate::commands::report;
+use crate::commands::{dispatch, report};
 use crate::fault::Fault;
 use crate::play::play_files;
 use std::process::ExitCode;

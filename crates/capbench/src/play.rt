@@ -1,7 +1,7 @@
 //! Talks, played to the commands of `capd` and to those of this program.
 
-use crate::book::read_talks;
-use crate::cli_commands;
+use crate::book::{Talk, read_talks};
+use crate::commands;
 use crate::page::Page;
 use crate::run::{Outcome, Program, Run};
 use crate::streams::Output;
@@ -46,7 +46,16 @@ fn play_file<W: Write>(
         return Err(TalkFault::Unread.at(0));
     };
     let talks = read_talks(rt.alloc(), text.as_slice())?;
-    for talk in talks.as_slice() {
+    play_talks(rt, name, talks.as_slice(), page)
+}
+
+fn play_talks<W: Write>(
+    rt: &(impl AllocGlobal + Files + Threads + Wait + Sync),
+    name: &str,
+    talks: &[Talk<'_>],
+    page: &mut Page<'_, W>,
+) -> Result<(), Place> {
+    for talk in talks {
         page.begin(name, talk);
         play_runs(rt, talk.runs.as_slice(), page);
         page.end(talk)?;
@@ -77,13 +86,7 @@ fn outcome(rt: &(impl AllocGlobal + Files + Threads + Wait + Sync), run: &Run) -
             let (mut reader, mut writer) = (Watched::new(reader), Watched::new(writer));
             cli::dispatch(rt, words, &mut reader, &mut writer, &mut faults)
         }
-        Program::Capbench => cli_commands::dispatch(
-            rt,
-            words,
-            &mut reader,
-            &mut writer,
-            &mut faults,
-        ),
+        Program::Capbench => commands::dispatch(rt, words, &mut reader, &mut writer, &mut faults),
     };
     came
 }

@@ -25,40 +25,19 @@ const VIEW: &[u8; 38] = b"view ................................\n";
 /// The line that is called where an event was made and not published: it changes nothing, and is published with it.
 const CATCH_UP: &[u8] = b"poll 1 9";
 
-/// Has the first of two passes call what the lines of a script say. What is answered is written, and behind that what each pass is told of
-/// all questions.
+/// Has the first of the passes call what a line of a script says until it is made and published. What is answered is written, and behind that
+/// what each pass is told of all questions.
 pub(crate) fn publish<L: Server, T: Wait, W: Write>(
     rt: &T,
     server: &CapServer<NoGate, L>,
     passes: &mut [Pass<L>],
-    lines: &[&[u8]],
-    transcript: &mut Transcript<'_, W>,
-) {
-    let [caller, other] = passes else {
-        return transcript.fail(Fault::Usage);
-    };
-    for line in lines {
-        take_line(rt, server, caller, other, line, transcript);
-    }
-}
-
-// Calls what a line says until it is made and published.
-fn take_line<L: Server, T: Wait, W: Write>(
-    rt: &T,
-    server: &CapServer<NoGate, L>,
-    caller: &mut Pass<L>,
-    other: &mut Pass<L>,
     line: &[u8],
     transcript: &mut Transcript<'_, W>,
 ) {
     let mut line = line;
     for _ in 0..TRIES {
-        let Some(event) = transcript.event(line) else {
-            return;
-        };
-        let heard = tell(call(rt, server, caller, event), transcript);
-        see(server, caller, transcript);
-        see(server, other, transcript);
+        let heard = call_first(rt, server, passes, line, transcript);
+        see(server, passes, transcript);
         match heard {
             Heard::Answered | Heard::Failed => return,
             Heard::Late => line = CATCH_UP,
@@ -66,6 +45,23 @@ fn take_line<L: Server, T: Wait, W: Write>(
         }
     }
     transcript.fail(Fault::InVain);
+}
+
+// Has the first of the passes call what a line says.
+fn call_first<L: Server, T: Wait, W: Write>(
+    rt: &T,
+    server: &CapServer<NoGate, L>,
+    passes: &mut [Pass<L>],
+    line: &[u8],
+    transcript: &mut Transcript<'_, W>,
+) -> Heard {
+    let Some(caller) = passes.first_mut() else {
+        return Heard::Failed;
+    };
+    let Some(event) = transcript.event(line) else {
+        return Heard::Failed;
+    };
+    tell(call(rt, server, caller, event), transcript)
 }
 
 // Writes an answer, and behind it that it is not published yet.
@@ -85,17 +81,24 @@ fn tell<W: Write>(answer: Result<Answer, Stop>, transcript: &mut Transcript<'_, 
     }
 }
 
-// Writes what a pass is told, a letter for each question.
+// Writes what each pass is told.
 fn see<L: Server, W: Write>(
     server: &CapServer<NoGate, L>,
-    pass: &mut Pass<L>,
+    passes: &mut [Pass<L>],
     transcript: &mut Transcript<'_, W>,
 ) {
+    for pass in passes {
+        transcript.write(&view(server, pass));
+    }
+}
+
+// What a pass is told, a letter for each question.
+fn view<L: Server>(server: &CapServer<NoGate, L>, pass: &mut Pass<L>) -> [u8; 38] {
     let mut view = *VIEW;
     for place in 0..QUESTIONS {
         view[5 + place] = letter_of(server.explain(pass, &question_at(place as u32)));
     }
-    transcript.write(&view);
+    view
 }
 
 // The question at a place: client by client, and for each of them inode by inode.

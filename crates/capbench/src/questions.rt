@@ -134,14 +134,15 @@ fn choose_texts(job: &mut Job, texts: &[&[u8]], values: &mut Values) {
 
 // The mode and the access, and the numbers of the caller and of the owner.
 fn choose_words(job: &mut Job, values: &mut Values) {
+    let users = USERS;
     choose(job, MODES, &mut values.mode);
     choose(job, ACCESSES, &mut values.access);
-    choose(job, USERS, &mut values.uid);
-    choose(job, USERS, &mut values.gid);
-    choose(job, USERS, &mut values.owner);
-    choose(job, USERS, &mut values.group);
+    choose(job, users, &mut values.uid);
+    choose(job, users, &mut values.gid);
+    choose(job, users, &mut values.owner);
+    choose(job, users, &mut values.group);
     if let Some(groups) = &mut values.groups {
-        choose(job, USERS, groups);
+        choose(job, users, groups);
     }
 }
 

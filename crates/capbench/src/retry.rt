@@ -41,10 +41,10 @@ fn play<W: Write>(
 // tree.
 fn take_line<W: Write>(core: &mut Core, line: &[u8], transcript: &mut Transcript<'_, W>) {
     for _ in 0..TRIES {
-        let (whole, tree) = (digest_of(core), digest_of(core.tree()));
+        let (whole, tree) = digests_of(core);
         let is_same = match ask(core, line, transcript) {
-            Heard::Starved => tree == digest_of(core.tree()),
-            Heard::Stopped => whole == digest_of(core),
+            Heard::Starved => tree == digests_of(core).1,
+            Heard::Stopped => whole == digests_of(core).0,
             _ => return,
         };
         if !is_same {
@@ -52,6 +52,11 @@ fn take_line<W: Write>(core: &mut Core, line: &[u8], transcript: &mut Transcript
         }
     }
     transcript.fail(Fault::InVain);
+}
+
+// The hash of a core, and that of its tree.
+fn digests_of(core: &Core) -> (u64, u64) {
+    (digest_of(core), digest_of(core.tree()))
 }
 
 // Asks the core, and writes what it answers.

@@ -18,7 +18,7 @@ pub enum Program {
 }
 
 /// What a program writes, what it says of faults, and its status.
-#[derive(Clone, PartialEq)]
+#[derive(PartialEq)]
 pub struct Outcome {
     /// What it writes.
     pub written: Vec<u8>,
@@ -48,6 +48,19 @@ impl Outcome {
         }
     }
 
+    // One line more of it.
+    fn take(&mut self, line: Line<'_>) -> Result<(), TalkFault> {
+        match line {
+            Line::Written(text) => push_line(&mut self.written, text),
+            Line::Complaint(text) => push_line(&mut self.complaints, text),
+            Line::Status(text) => {
+                self.status = status(text)?;
+                Ok(())
+            }
+            _ => Ok(()),
+        }
+    }
+
     // Of both texts what their streams take is left.
     fn cut(&mut self, limits: Limits)
         ensures written { self.new.written.items ≡ take limits.room self.old.written.items }
@@ -59,7 +72,6 @@ impl Outcome {
 }
 
 /// A run of a program: its words, what it reads, what its streams take, and its outcome as the talk has it.
-#[derive(Clone)]
 pub struct Run {
     pub program: Program,
     /// The words behind the program's name.
@@ -99,19 +111,13 @@ impl Run {
 
     /// One line more of what the program is given, or is to answer.
     pub(crate) fn take(&mut self, line: Line<'_>) -> Result<(), TalkFault> {
-        let taken = match line {
-            Line::Asked(text) => push_line(&mut self.input, text),
-            Line::Written(text) => push_line(&mut self.wanted.written, text),
-            Line::Complaint(text) => push_line(&mut self.wanted.complaints, text),
-            Line::Limit(text) => self.limits.take(text),
-            Line::Status(text) => {
-                self.wanted.status = status(text)?;
-                Ok(())
-            }
-            _ => Ok(()),
-        };
+        match line {
+            Line::Asked(text) => return push_line(&mut self.input, text),
+            Line::Limit(text) => self.limits.take(text)?,
+            line => self.wanted.take(line)?,
+        }
         self.wanted.cut(self.limits);
-        taken
+        Ok(())
     }
 
     /// The stream that it reads.

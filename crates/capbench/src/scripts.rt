@@ -1,11 +1,14 @@
-//! Whole scripts: those that are run as `capd run` does it, and those that a program with a server serves as `capd serve` does.
+//! Whole scripts: those that are run as `capd run` does it, and those that are served as `capd serve` does.
 
 use crate::fault::Fault;
 use crate::job::Job;
 use crate::jobs::Amount;
 use capscript::run;
+use cli::serve;
 use std::alloc::Global;
 use std::hash::{DefaultHasher, Hasher};
+use std::sync::Wait;
+use std::thread::Threads;
 use texts::Watched;
 
 /// How many directories stand in each other.
@@ -48,9 +51,35 @@ fn transcript(alloc: Global, script: &[u8]) -> Result<Vec<u8>, Fault> {
     Ok(written)
 }
 
-/// The script of so many rounds that is to be served: clients that each work on files of their own, from threads of their own. Nothing that
-/// they ask for waits, since the number of a request that waits depends on when its thread was served.
-pub fn served_script(alloc: Global, amount: Amount) -> Result<Vec<u8>, Fault> {
+/// Serves a script of so many rounds, and returns the digest of its history.
+pub(crate) fn serve_script(
+    rt: &(impl AllocGlobal + Threads + Wait + Sync),
+    amount: Amount,
+) -> Result<u64, Fault> {
+    let script = served_script(rt.alloc(), amount)?;
+    let history = served(rt, script.as_slice())?;
+    Ok(history_digest(history.as_slice()))
+}
+
+// What is written of a script that is served. What is promised of it stays behind here.
+fn served(
+    rt: &(impl AllocGlobal + Threads + Wait + Sync),
+    script: &[u8],
+) -> Result<Vec<u8>, Fault> {
+    let mut written = Vec::new(rt.alloc());
+    let mut reader = script;
+    serve(
+        rt,
+        rt.alloc(),
+        &mut Watched::new(&mut reader),
+        &mut Watched::new(&mut written),
+    )?;
+    Ok(written)
+}
+
+// The script of so many rounds that is to be served: clients that each work on files of their own, from threads of their own. Nothing that
+// they ask for waits, since the number of a request that waits depends on when its thread was served.
+fn served_script(alloc: Global, amount: Amount) -> Result<Vec<u8>, Fault> {
     let mut job = Job::new(alloc, amount.seed);
     add_clients(&mut job);
     job.add("threads\n", &[]);
@@ -60,9 +89,9 @@ pub fn served_script(alloc: Global, amount: Amount) -> Result<Vec<u8>, Fault> {
     job.script()
 }
 
-/// The digest of the history of a script that is served. It is the same in whatever order the threads were served: the sum of the digests of
-/// the lines, of which each has the pass of its client, and its number among that client's.
-pub fn history_digest(text: &[u8]) -> u64 {
+// The digest of the history of a script that is served. It is the same in whatever order the threads were served: the sum of the digests of
+// the lines, of which each has the pass of its client, and its number among that client's.
+fn history_digest(text: &[u8]) -> u64 {
     let mut sum: u64 = 0;
     for line in text.split(|byte| *byte == b'\n') {
         sum = sum.wrapping_add(digest_of(line));

@@ -2,43 +2,72 @@
 ghost use Rattle.std.specs.Prelude.{◌≡◌};
 ghost use Rattle.capserver.specs.Opened.{opened};
 
-use crate::explaining::explain;
+use crate::explaining::{Asking, explain};
 use crate::fault::Fault;
 use crate::lines::Transcript;
 use crate::publishing::publish;
-use crate::server_work::ServerWork;
 use capscript::file_system;
 use capserver::{Answer, CapServer, NoGate, Opening, Pass, StartFault};
 use capstep::stop::Stop;
 use capstep::{Event, Row};
 use snapshot::Server;
-use std::alloc::Global;
 use std::io::Write;
 use std::marker::Brand;
 use std::sync::Wait;
 use std::sync::ledger::Blank;
 use std::thread::Threads;
 
-// What is done with a server, by the lines of a script.
+/// What is done with a server.
 #[derive(Clone, Copy)]
-struct ScriptedWork<'a> {
-    work: ServerWork,
-    lines: &'a [&'a [u8]],
+pub(crate) enum ServerWork {
+    /// One pass calls what a script says, and again what finds no memory; two ask what came of each call. The history takes so many rows.
+    Publish(u32),
+    /// Threads ask questions on policy, while another thread calls events.
+    Explain(Asking),
 }
 
 /// Starts a server on a root alone, does the work by its passes, and ends it. The sum is that of the questions that were answered with yes,
 /// or else that of the rows of the history.
-pub(crate) fn serve<T: Threads + Wait + Sync, W: Write>(
+pub(crate) fn serve<T: AllocGlobal + Threads + Wait + Sync, W: Write>(
     rt: &T,
-    alloc: Global,
     work: ServerWork,
     lines: &[&[u8]],
     writer: &mut W,
 ) -> Result<u64, Fault> {
-    let (fs, tree) = file_system(alloc)?;
-    let opening = Opening::new(alloc, fs, tree, max_rows_for(work))?;
-    let scripted = ScriptedWork { work, lines };
-    served::<Brand, T, W>(rt, alloc, opening, Blank::new(32), scripted, writer)
+    let max_rows = match work {
+        ServerWork::Publish(max_rows) => max_rows,
+        ServerWork::Explain(_) => u32::MAX,
+    };
+    let (fs, tree) = file_system(rt.alloc())?;
+    let opening = Opening::new(rt.alloc(), fs, tree, max_rows)?;
+    served::<Brand, T, W>(rt, opening, Blank::new(32), work, lines, writer)
+}
+
+// No other function owns a server: what it keeps is carried through each way out of its owner.
+fn served<L: Server + Send + Sync, T: AllocGlobal + Threads + Wait + Sync, W: Write>(
+    rt: &T,
+    opening: Opening,
+    blank: Blank,
+    work: ServerWork,
+    lines: &[&[u8]],
+    writer: &mut W,
+) -> Result<u64, Fault>
+    requires opening { opening ≡ opened L.opening L.max_rows L.history L.tally }
+    requires name { blank.name ≡ L.name }
+    requires parts { (blank.parts ≡ L.parts) × (L.parts ≡ 32) }
+{
+    let (alloc, count) = (rt.alloc(), passes_for(work));
+    let started = CapServer::<NoGate, L>::start(rt, alloc, opening, blank, count, NoGate);
+    let (server, passes) = match started {
+        Ok(started) => started,
+        Err(fault) => return Err(why_not_started(fault)),
+    };
+    let mut transcript = Transcript::new(alloc, writer);
+    let sum = ask(rt, &server, passes, work, lines, &mut transcript);
+    let closed = server.close(rt, Vec::new(alloc));
+    let sum = sum_of(sum, closed.core.history(), &mut transcript);
+    drop(closed);
+    sum
 }
 
 // How many passes there are: one calls, and the others ask alone.
@@ -49,50 +78,6 @@ fn passes_for(work: ServerWork) -> u32 {
     }
 }
 
-// How many rows the history takes.
-fn max_rows_for(work: ServerWork) -> u32 {
-    match work {
-        ServerWork::Publish(max_rows) => max_rows,
-        ServerWork::Explain(_) => u32::MAX,
-    }
-}
-
-fn served<L: Server + Send + Sync, T: Threads + Wait + Sync, W: Write>(
-    rt: &T,
-    alloc: Global,
-    opening: Opening,
-    blank: Blank,
-    scripted: ScriptedWork<'_>,
-    writer: &mut W,
-) -> Result<u64, Fault>
-    requires opening { opening ≡ opened L.opening L.max_rows L.history L.tally }
-    requires name { blank.name ≡ L.name }
-    requires parts { (blank.parts ≡ L.parts) × (L.parts ≡ 32) }
-{
-    let ScriptedWork { work, lines } = scripted;
-    let count = passes_for(work);
-    let started = CapServer::<NoGate, L>::start(rt, alloc, opening, blank, count, NoGate);
-    let (server, mut passes) = match started {
-        Ok(started) => started,
-        Err(fault) => return Err(why_not_started(fault)),
-    };
-    let mut transcript = Transcript::new(alloc, writer);
-    let sum = match work {
-        ServerWork::Publish(_) => {
-            publish(rt, &server, passes.as_mut_slice(), lines, &mut transcript);
-            None
-        }
-        ServerWork::Explain(asking) => Some(explain(rt, alloc, &server, passes, asking, lines)),
-    };
-    let closed = server.close(rt, Vec::new(alloc));
-    let sum = match sum {
-        Some(sum) => sum,
-        None => tell_history(closed.core.history(), &mut transcript),
-    };
-    drop(closed);
-    sum
-}
-
 // The words ask for more passes than a server has, or there was no memory.
 fn why_not_started(fault: StartFault) -> Fault {
     match fault {
@@ -101,10 +86,40 @@ fn why_not_started(fault: StartFault) -> Fault {
     }
 }
 
-// Writes the rows of a history, and tells how many they are.
-fn tell_history<W: Write>(rows: &[Row], transcript: &mut Transcript<'_, W>) -> Result<u64, Fault> {
-    transcript.tell_rows(rows);
-    transcript.end(rows.len() as u64)
+// Has the passes of a server call and ask. The sum is that of the questions that were answered with yes; there is none of what is published.
+fn ask<L: Server + Send + Sync, T: AllocGlobal + Threads + Wait + Sync, W: Write>(
+    rt: &T,
+    server: &CapServer<NoGate, L>,
+    passes: Vec<Pass<L>>,
+    work: ServerWork,
+    lines: &[&[u8]],
+    transcript: &mut Transcript<'_, W>,
+) -> Option<Result<u64, Fault>> {
+    let mut passes = passes;
+    match work {
+        ServerWork::Explain(asking) => Some(explain(rt, server, passes, asking, lines)),
+        ServerWork::Publish(_) => {
+            for line in lines {
+                publish(rt, server, passes.as_mut_slice(), line, transcript);
+            }
+            None
+        }
+    }
+}
+
+// The sum, or else that of the rows of the history, which are written.
+fn sum_of<W: Write>(
+    sum: Option<Result<u64, Fault>>,
+    rows: &[Row],
+    transcript: &mut Transcript<'_, W>,
+) -> Result<u64, Fault> {
+    match sum {
+        Some(sum) => sum,
+        None => {
+            transcript.tell_rows(rows);
+            transcript.end(rows.len() as u64)
+        }
+    }
 }
 
 /// Calls an event. What the server promises of an answer stays behind here.

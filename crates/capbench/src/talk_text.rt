@@ -17,27 +17,18 @@ pub fn push_line(bytes: &mut Vec<u8>, text: &[u8]) -> Result<(), TalkFault> {
 
 // Adds the bytes of a text. Behind a backslash stands a byte as an `x` and two digits.
 fn push_bytes(bytes: &mut Vec<u8>, text: &[u8]) -> Result<(), TalkFault> {
-    let mut is_behind = false;
-    for part in text.split(|byte| *byte == b'\\') {
-        let plain = if is_behind {
-            push_digits(bytes, part)?
-        } else {
-            part
+    let mut rest = text;
+    for _ in 0..text.len() {
+        let (byte, behind) = match rest {
+            [] => break,
+            [b'\\', b'x', high, low, behind @ ..] => (digit(*high)? << 4 | digit(*low)?, behind),
+            [b'\\', ..] => return Err(TalkFault::NotUnderstood),
+            [byte, behind @ ..] => (*byte, behind),
         };
-        bytes.extend_from_slice(plain)?;
-        is_behind = true;
+        bytes.push(byte)?;
+        rest = behind;
     }
     Ok(())
-}
-
-// Adds the byte that a text begins with as an `x` and two digits, and returns the text behind these.
-fn push_digits<'a>(bytes: &mut Vec<u8>, text: &'a [u8]) -> Result<&'a [u8], TalkFault> {
-    let [b'x', high, low, rest @ ..] = text else {
-        return Err(TalkFault::NotUnderstood);
-    };
-    let (high, low) = (digit(*high)?, digit(*low)?);
-    bytes.push(high << 4 | low)?;
-    Ok(rest)
 }
 
 // The value of a hexadecimal digit in lower case.
@@ -52,18 +43,27 @@ fn digit(byte: u8) -> Result<u8, TalkFault> {
 /// The words of a command line. They are parted by spaces; one that begins with a quote goes on to the next.
 pub fn read_words(alloc: Global, text: &[u8]) -> Result<Vec<Vec<u8>>, TalkFault> {
     let mut words = Vec::new(alloc);
+    push_words(alloc, &mut words, text)?;
+    Ok(words)
+}
+
+fn push_words(alloc: Global, words: &mut Vec<Vec<u8>>, text: &[u8]) -> Result<(), TalkFault> {
     let mut rest = text;
     for _ in 0..text.len() {
         if rest.is_empty() {
             break;
         }
         let (word, behind) = split_word(rest)?;
-        let mut bytes = Vec::new(alloc);
-        push_bytes(&mut bytes, word)?;
-        words.push(bytes)?;
+        words.push(read_word(alloc, word)?)?;
         rest = behind;
     }
-    Ok(words)
+    Ok(())
+}
+
+fn read_word(alloc: Global, word: &[u8]) -> Result<Vec<u8>, TalkFault> {
+    let mut bytes = Vec::new(alloc);
+    push_bytes(&mut bytes, word)?;
+    Ok(bytes)
 }
 
 // The first word, and the words behind it.

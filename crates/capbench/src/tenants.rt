@@ -87,29 +87,76 @@ fn let_in(job: &mut Job, number: u64) -> Tenant {
     }
 }
 
+// What a tenant began its round with.
+#[derive(Clone, Copy)]
+enum Begun {
+    // To make a file of this name in a directory.
+    Making { folder: u64, name: u64 },
+    // To move the file at a place into a directory.
+    Moving { place: usize, folder: u64 },
+    Using,
+}
+
 // One round of a tenant: one request or a few, and what it is told of then.
 fn work(core: &mut Core, job: &mut Job, tenant: &mut Tenant, turn: u64) {
     let dice = job.below(100);
-    let place = job.below(tenant.files.len() as u64) as usize;
-    match tenant.files.get(place).copied() {
-        Some(file) if dice == 82 => move_file(core, job, tenant, place, file),
-        Some(file) if dice < 85 => use_file(job, tenant.client, file, dice),
-        _ => make_file(core, job, tenant, turn),
-    }
+    let begun = begin(job, tenant, dice, turn);
+    let heard = job.play(core);
+    go_on(job, tenant, begun, heard);
     if dice % 4 == 0 {
         job.add(POLL, &[tenant.client]);
     }
     job.play(core);
 }
 
-// Makes a file, and opens it to write.
-fn make_file(core: &mut Core, job: &mut Job, tenant: &mut Tenant, name: u64) {
-    let client = tenant.client;
+fn begin(job: &mut Job, tenant: &Tenant, dice: u64, turn: u64) -> Begun {
+    let place = job.below(tenant.files.len() as u64) as usize;
+    match tenant.files.get(place).copied() {
+        Some(file) if dice == 82 => Begun::Moving {
+            place,
+            folder: move_file(job, tenant, file),
+        },
+        Some(file) if dice < 85 => {
+            use_file(job, tenant.client, file, dice);
+            Begun::Using
+        }
+        _ => Begun::Making {
+            folder: make_file(job, tenant, turn),
+            name: turn,
+        },
+    }
+}
+
+// Makes a file in one of the tenant's directories, which is returned.
+fn make_file(job: &mut Job, tenant: &Tenant, name: u64) -> u64 {
     let folder = job.among(tenant.home.saturating_add(1), FOLDERS);
-    job.add("create # # file# 0644\n", &[client, folder, name]);
-    if let Heard::Ino(ino) = job.play(core) {
-        job.keep(&mut tenant.files, File { ino, folder, name });
-        job.add("open # # rw\n", &[client, ino]);
+    job.add("create # # file# 0644\n", &[tenant.client, folder, name]);
+    folder
+}
+
+// Moves a file into another directory of the tenant's, which is returned.
+fn move_file(job: &mut Job, tenant: &Tenant, file: File) -> u64 {
+    let folder = job.among(tenant.home.saturating_add(1), FOLDERS);
+    job.add(
+        "rename # # # file#\n",
+        &[tenant.client, file.ino, folder, file.name],
+    );
+    folder
+}
+
+// Opens the file that was made, to write, or keeps where a file stands.
+fn go_on(job: &mut Job, tenant: &mut Tenant, begun: Begun, heard: Heard) {
+    match (begun, heard) {
+        (Begun::Making { folder, name }, Heard::Ino(ino)) => {
+            job.keep(&mut tenant.files, File { ino, folder, name });
+            job.add("open # # rw\n", &[tenant.client, ino]);
+        }
+        (Begun::Moving { place, folder }, Heard::Done) => {
+            if let Some(file) = tenant.files.get_mut(place) {
+                file.folder = folder;
+            }
+        }
+        _ => {}
     }
 }
 
@@ -139,18 +186,4 @@ fn change_file(job: &mut Job, client: u64, ino: u64, dice: u64) {
         _ => ("alter # # setx user.mark# 0123abcd\n", value % 8),
     };
     job.add(line, &[client, ino, number]);
-}
-
-// Moves a file into another directory of the tenant's.
-fn move_file(core: &mut Core, job: &mut Job, tenant: &mut Tenant, place: usize, file: File) {
-    let folder = job.among(tenant.home.saturating_add(1), FOLDERS);
-    job.add(
-        "rename # # # file#\n",
-        &[tenant.client, file.ino, folder, file.name],
-    );
-    if let Heard::Done = job.play(core) {
-        if let Some(file) = tenant.files.get_mut(place) {
-            file.folder = folder;
-        }
-    }
 }
