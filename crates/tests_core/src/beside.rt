@@ -3,13 +3,13 @@
 ghost use Rattle.std.specs.Prelude.{◌≡◌};
 ghost use Rattle.capserver.specs.Opened.{opened};
 
-use crate::asserting::{present, same};
-use capbits::{ClientId, Ino};
-use capexplain::read_line;
+use crate::asking::event;
+use crate::asserting::{made, present, same};
+use capbits::{ClientId, Ino, PassId};
 use capgrant::{Access, Verdict};
 use capscript::file_system;
 use capserver::{CapServer, Gate, Opening, Pass, StartFault};
-use capstep::{Event, Reply};
+use capstep::Reply;
 use policy_view::{Question, Unknown};
 use snapshot::Server;
 use std::alloc::{AllocError, Global};
@@ -18,7 +18,7 @@ use std::process::Abort;
 use std::sync::Wait;
 use std::sync::atomic::{AtomicU64, Ordering};
 use std::sync::ledger::Blank;
-use std::thread::{Threads, join, yield_now};
+use std::thread::{Threads, map_vec, yield_now};
 
 // How often a thread yields while it waits for another one.
 const TURNS: u32 = 1_000_000;
@@ -33,6 +33,8 @@ struct Signs {
     begun: AtomicU64,
     // How many calls have come to the gate.
     entered: AtomicU64,
+    // How many of those beside each other have ended.
+    ended: AtomicU64,
     // 1 while the gate lets calls go on.
     open: AtomicU64,
     // 1 where somebody waited for too many turns.
@@ -44,6 +46,7 @@ impl Signs {
         Signs {
             begun: AtomicU64::new(0),
             entered: AtomicU64::new(0),
+            ended: AtomicU64::new(0),
             open: AtomicU64::new(1),
             late: AtomicU64::new(0),
         }
@@ -74,35 +77,20 @@ impl Gate for Hold<'_> {
     }
 }
 
-fn event_of(alloc: Global, line: &str) -> Option<Event> {
-    match read_line(alloc, 1, line.as_bytes()) {
-        Ok(Some((_, event))) => Some(event),
-        _ => None,
-    }
-}
-
-// Calls the event that a line says, and says whether it is done, and fresh.
-fn call<G: Gate, L: Server, R: Wait>(
+// Calls the event that a line says, which is done, and published at once.
+fn call<L: Server, R: Abort + AllocGlobal + Wait>(
     rt: &R,
-    alloc: Global,
-    server: &CapServer<G, L>,
+    server: &CapServer<Hold<'_>, L>,
     pass: &mut Pass<L>,
     line: &str,
-) -> &'static str {
-    let Some(event) = event_of(alloc, line) else {
-        return "no event";
-    };
-    match server.call(rt, pass, event) {
-        Ok(answer) => match &answer.reply {
-            Reply::Done | Reply::Ino(_) if answer.fresh => "fresh",
-            _ => "answered",
-        },
-        Err(_) => "stopped",
-    }
+) {
+    let answer = made(rt, server.call(rt, pass, event(rt, rt.alloc(), line)), line);
+    let is_done = matches!(answer.reply, Reply::Done | Reply::Ino(_));
+    same(rt, (is_done, answer.fresh), (true, true), line);
 }
 
 // Whether client 1 may read an inode.
-fn ask<G: Gate, L: Server>(server: &CapServer<G, L>, pass: &mut Pass<L>, ino: u64) -> &'static str {
+fn ask<L: Server>(server: &CapServer<Hold<'_>, L>, pass: &mut Pass<L>, ino: u64) -> &'static str {
     let question = Question {
         client: ClientId(1),
         ino: Ino(ino),
@@ -115,90 +103,59 @@ fn ask<G: Gate, L: Server>(server: &CapServer<G, L>, pass: &mut Pass<L>, ino: u6
     }
 }
 
-// What came of it: of a question on the root and of one on the first file, while the call that makes that is held, and how many calls are
-// at the gate then; of the two calls; and of questions on both files, when these have ended.
-type Answers = ([&'static str; 2], u64, [&'static str; 2], [&'static str; 2]);
-
-const ANSWERS: Answers = (
-    ["allowed", "no inode"],
-    1,
-    ["fresh", "fresh"],
-    ["allowed", "allowed"],
-);
-
-// Makes a file, and says what came of it.
-fn make<L: Server, R: Wait>(
-    rt: &R,
-    alloc: Global,
-    server: &CapServer<Hold<'_>, L>,
-    signs: &Signs,
-    pass: Pass<L>,
-    line: &'static str,
-) -> &'static str {
-    let mut pass = pass;
-    signs.begun.fetch_add(1, Ordering::SeqCst);
-    call(rt, alloc, server, &mut pass, line)
-}
-
-// Asks while one call is held and another one has begun, and then opens the gate.
+// Asks about the root and the first file while the call that makes that is held and another one has begun. Then it opens the gate, and asks about
+// both files when the calls have ended.
 fn ask_meanwhile<L: Server>(
+    rt: &impl Abort,
     server: &CapServer<Hold<'_>, L>,
     signs: &Signs,
-    pass: Pass<L>,
-) -> (Pass<L>, [&'static str; 2], u64) {
-    let mut pass = pass;
+    pass: &mut Pass<L>,
+) {
     signs.wait_for(&signs.begun, 2);
     signs.wait_for(&signs.entered, 1);
     for _ in 0..A_WHILE {
         yield_now();
     }
-    let answers = [ask(server, &mut pass, 1), ask(server, &mut pass, 2)];
+    let answers = [ask(server, pass, 1), ask(server, pass, 2)];
     let entered = signs.entered.load(Ordering::SeqCst);
     signs.open.store(1, Ordering::SeqCst);
-    (pass, answers, entered)
+    signs.wait_for(&signs.ended, 2);
+    let afterwards = [ask(server, pass, 2), ask(server, pass, 3)];
+    same(rt, answers, ["allowed", "no inode"], "beside a held call");
+    same(rt, entered, 1, "calls at the gate");
+    same(rt, afterwards, ["allowed", "allowed"], "behind both calls");
 }
 
-// Lets two passes call and the third one ask.
-fn answers_beside<L: Server + Send + Sync, R: Threads + Wait + Sync>(
+// Pass 1 and pass 2 each make a file, and pass 3 asks.
+fn act<L: Server, R: Abort + AllocGlobal + Wait>(
     rt: &R,
-    alloc: Global,
     server: &CapServer<Hold<'_>, L>,
     signs: &Signs,
-    (one, two, three): (Pass<L>, Pass<L>, Pass<L>),
-) -> Answers {
-    let (asked, made) = join(
-        rt,
-        move || ask_meanwhile(server, signs, three),
-        move || {
-            join(
-                rt,
-                move || make(rt, alloc, server, signs, one, "create 1 1 f 0644"),
-                move || make(rt, alloc, server, signs, two, "create 1 1 g 0644"),
-            )
-        },
-    );
-    let (mut three, answers, entered) = asked;
-    let afterwards = [ask(server, &mut three, 2), ask(server, &mut three, 3)];
-    (answers, entered, [made.0, made.1], afterwards)
+    mut pass: Pass<L>,
+) {
+    let line = match pass.number() {
+        PassId(1) => "create 1 1 f 0644",
+        PassId(2) => "create 1 1 g 0644",
+        _ => return ask_meanwhile(rt, server, signs, &mut pass),
+    };
+    signs.begun.fetch_add(1, Ordering::SeqCst);
+    call(rt, server, &mut pass, line);
+    signs.ended.fetch_add(1, Ordering::SeqCst);
 }
 
-// Opens a session, closes the gate, and sees what comes of calls and questions beside each other.
+// Opens a session, closes the gate, and has the passes call and ask beside each other.
 fn see_beside<L: Server + Send + Sync, R: Abort + AllocGlobal + Threads + Wait + Sync>(
     rt: &R,
     server: &CapServer<Hold<'_>, L>,
     signs: &Signs,
-    passes: Vec<Pass<L>>,
+    mut passes: Vec<Pass<L>>,
 ) {
-    let (alloc, mut passes) = (rt.alloc(), passes);
-    let three = present(rt, passes.pop(), "pass 3");
-    let two = present(rt, passes.pop(), "pass 2");
-    let mut one = present(rt, passes.pop(), "pass 1");
-    let opened = call(rt, alloc, server, &mut one, "session 1 10 10 - allow rw");
-    same(rt, opened, "fresh", "session");
+    let one = present(rt, passes.first_mut(), "pass 1");
+    call(rt, server, one, "session 1 10 10 - allow rw");
     signs.entered.store(0, Ordering::SeqCst);
     signs.open.store(0, Ordering::SeqCst);
-    let answers = answers_beside(rt, alloc, server, signs, (one, two, three));
-    same(rt, answers, ANSWERS, "beside a held call");
+    let acted = map_vec(rt, passes, &|pass: Pass<L>| act(rt, server, signs, pass));
+    same(rt, acted.is_ok(), true, "threads");
     same(rt, signs.late.load(Ordering::SeqCst), 0, "late");
 }
 

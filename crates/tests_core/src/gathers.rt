@@ -1,9 +1,7 @@
 //! The life of a gather, step by step.
 
-use crate::asking::Beside::Locks;
-use crate::asking::Case;
-
-const GATHERS: &str = "
+pub const CASES: &str = "
+== 100 locks
 # A lock goes from gather to gather.
 # A lock gathers until all is acknowledged.
 session 1 10 10 - allow rw => done | -; -; -
@@ -25,5 +23,3 @@ want 2 2 p => caps 4 p | SYNC to EXCL(1); pFscr 3; pFscr 4
 ack 2 2 4 => done | EXCL(1); pFsxcrb 4 due; p 4
 poll 1 9 => messages 1 /  caps 2 4 pFsxcrb | EXCL(1); pFsxcrb 4; p 4
 ";
-
-pub const CASES: &[Case] = &[(100, Locks, GATHERS)];

@@ -1,9 +1,7 @@
 //! What a core keeps of its events: the rows of its history, and whose they are.
 
-use crate::asking::Beside::Changes;
-use crate::asking::Case;
-
-const MORE_THAN_TWO_ROWS: &str = "
+pub const CASES: &str = "
+== 2 changes
 # A full history takes no more.
 7: session 1 10 10 - allow rw => done | opened
 7: create 1 1  0644 => refused NameBad
@@ -12,15 +10,13 @@ const MORE_THAN_TWO_ROWS: &str = "
 row 0 => 7.1 session 1 10 10 - allow rw => done
 row 1 => 7.2 create 1 1  0644 => refused NameBad
 row 2 => no row
-";
 
-const MORE_THAN_NO_ROW: &str = "
+== 0 changes
 # A history of no rows takes none.
 7: session 1 10 10 - allow rw => stop Full
 row 0 => no row
-";
 
-const PASSES: &str = "
+== 100 changes
 # Each pass is numbered on its own.
 4: lookup 1 1 f => refused NoSession
 9: lookup 1 1 f => refused NoSession
@@ -38,9 +34,3 @@ row 5 => 0.1 lookup 1 1 f => refused NoSession
 row 6 => 9.3 lookup 1 1 f => refused NoSession
 row 7 => no row
 ";
-
-pub const CASES: &[Case] = &[
-    (2, Changes, MORE_THAN_TWO_ROWS),
-    (0, Changes, MORE_THAN_NO_ROW),
-    (100, Changes, PASSES),
-];

@@ -1,7 +1,6 @@
 //! The layers, each used by itself: the examples of docs/LIBRARY.md, and the calls on sessions and locks that no server makes. What each
 //! answers, its definition says: the values are laws of `worked_cases`.
 
-use crate::asking::Beside::Nothing;
 use crate::asking::core_of;
 use crate::asserting::{made, same};
 use crate::values::{attr_of, caller_of, caps, cephfs, grants_of};
@@ -116,7 +115,7 @@ fn layers_are_used_alone(rt: HostRuntime) {
 
 // ---- who holds what, and locks beside it
 
-const A_FILE: &str = "
+const A_FILE: &str = "100
 session 1 1 1 - allow rw => done
 create 1 1 f 0755 => ino 2
 ";
@@ -147,7 +146,7 @@ fn asks(rt: &impl Abort, (core, fs): (&Core, &FsName), table: &CapTable, locks: 
 
 #[test]
 fn a_request_waits_and_is_dropped(rt: HostRuntime) {
-    let core = core_of(&rt, (100, Nothing, A_FILE));
+    let core = core_of(&rt, A_FILE);
     let fs = cephfs(&rt);
     same(&rt, core.session(ONE).is_some(), true, "a session");
     let mut table = made(&rt, CapTable::new(rt.alloc()), "a table");

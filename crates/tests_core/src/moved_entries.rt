@@ -1,10 +1,8 @@
 //! What clients hold of inodes that are moved, and of all that stand below them: what they come to hold and what is taken
 //! back, in the step in which the rename is served.
 
-use crate::asking::Beside::Locks;
-use crate::asking::Case;
-
-const A_DIRECTORY_IS_MOVED: &str = "
+pub const CASES: &str = "
+== 100 locks
 # The row that serves renames keeps their ends.
 session 1 10 10 - allow rw => done | -; -; -
 session 2 20 20 - allow rw path=/a => done | -; -; -
@@ -29,5 +27,3 @@ lookup 1 3 g => refused NoEnt | MIX to SYNC; pLsFr 5 due; pFrw 3 due
 row 12 => 1.13 rename 1 3 4 a => done
 row 15 => 1.16 ack 1 2 4 => done; ended 2 denied write 1:4; ended 4 done; of 2; of 1
 ";
-
-pub const CASES: &[Case] = &[(100, Locks, A_DIRECTORY_IS_MOVED)];

@@ -1,9 +1,7 @@
 //! Who is asked to release, and who hears of it; and who comes off the blocklist.
 
-use crate::asking::Beside::Locks;
-use crate::asking::Case;
-
-const A_RECALL: &str = "
+pub const CASES: &str = "
+== 100 locks
 # A recall moves nothing.
 # Two clients share a file, and a change waits for both.
 session 1 10 10 - allow rw => done | -; -; -
@@ -18,5 +16,3 @@ poll 1 9 => messages 2 /  caps 2 2 pFc /  recall 2 | SYNC to LOCK; pFscr 2; pFsc
 row 6 => 1.7 recall 2 => recalled 1:2 2:2
 row 8 => no row
 ";
-
-pub const CASES: &[Case] = &[(100, Locks, A_RECALL)];

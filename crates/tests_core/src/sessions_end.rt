@@ -1,9 +1,7 @@
 //! Sessions that end, and what ends with them.
 
-use crate::asking::Beside::{AuthLock, Locks};
-use crate::asking::Case;
-
-const FOUR_WAIT: &str = "
+pub const CASES: &str = "
+== 100 locks
 # What is dropped is kept before what is served.
 # Four requests wait, two of each client, the change of the second first.
 session 1 10 10 - allow rw => done | -; -; -
@@ -18,9 +16,8 @@ get 1 2 F => waiting 4 | EXCL(1) to LOCK; pFsxcrwb 2 due; -
 close 1 => done | LOCK; -; -
 poll 2 9 => messages 2 /  ended 1 done /  ended 3 attr F 5 0 | LOCK; -; -
 row 8 => 1.9 close 1 => done; ended 2 dropped; ended 4 dropped; ended 1 done; ended 3 attr F 5 0; of 1; of 1; of 2; of 2
-";
 
-const A_GATHER: &str = "
+== 100 auth 4
 # A gather outlives its request.
 # Two hold what a third wants to change.
 session 1 10 10 - allow rw => done | -
@@ -43,5 +40,3 @@ poll 2 9 => messages 1 /  caps 4 3 pFscr | SYNC to LOCK
 ack 2 4 3 => done | SYNC
 row 11 => 1.12 close 3 => done; ended 1 dropped; of 3
 ";
-
-pub const CASES: &[Case] = &[(100, Locks, FOUR_WAIT), (100, AuthLock(4), A_GATHER)];

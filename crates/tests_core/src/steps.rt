@@ -52,8 +52,8 @@ fn entry_text(rt: &impl Abort, alloc: Global, entry: Option<Entry>) -> String {
 }
 
 // Without what the core promises of it.
-fn lock(core: &Core, ino: u64, part: Part) -> Option<LockState> {
-    core.lock_state(Ino(ino), part)
+fn lock(core: &Core, ino: Ino, part: Part) -> Option<LockState> {
+    core.lock_state(ino, part)
 }
 
 fn entry(core: &Core, client: u32) -> Option<Entry> {
@@ -63,13 +63,13 @@ fn entry(core: &Core, client: u32) -> Option<Entry> {
 /// The file lock of inode 2, and what the clients 1 and 2 hold of it with the number of the last change, and `due` where
 /// they are not told of it yet.
 pub fn locks_text(rt: &impl Abort, alloc: Global, core: &Core) -> String {
-    let lock = lock_text(rt, alloc, lock(core, 2, Part::F));
+    let lock = lock_text(rt, alloc, lock(core, Ino(2), Part::F));
     let one = entry_text(rt, alloc, entry(core, 1));
     let two = entry_text(rt, alloc, entry(core, 2));
     made(rt, format!(in alloc; "{lock}; {one}; {two}"), "locks")
 }
 
 /// The auth lock of an inode.
-pub fn auth_lock_text(rt: &impl Abort, alloc: Global, core: &Core, ino: u64) -> String {
+pub fn auth_lock_text(rt: &impl Abort, alloc: Global, core: &Core, ino: Ino) -> String {
     lock_text(rt, alloc, lock(core, ino, Part::A))
 }

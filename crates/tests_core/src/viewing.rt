@@ -1,7 +1,5 @@
 //! What a step changes of what readers see.
 
-use crate::asking::Beside::Changes;
-use crate::asking::Case;
 use crate::asserting::made;
 use capcore::Core;
 use policy_view::ViewChange;
@@ -36,7 +34,8 @@ pub fn changes_text(rt: &impl Abort, alloc: Global, core: &Core) -> String {
     text
 }
 
-const TOLD: &str = "
+pub const CASES: &str = "
+== 100 changes
 # Each step tells readers what it changes.
 # A file, to which its maker alone has a lock; then it is unlinked, and goes once it is released.
 session 1 10 11 - allow rws => done | opened
@@ -78,9 +77,8 @@ session 2 20 20 - allow rw => done | opened
 evict 2 => done | ended
 session 2 20 20 - allow rw => refused Blocklisted
 unblock 2 => done
-";
 
-const STRAYS_GO: &str = "
+== 100 changes
 # A client that goes takes its strays along.
 # A client keeps files that were unlinked. With its session each of them goes, and nobody waits.
 session 1 10 10 - allow rw => done | opened
@@ -99,18 +97,11 @@ unlink 1 3 => done | removed
 unlink 1 4 => done | removed
 unlink 1 6 => done | removed
 close 1 => done | ended; forgotten; forgotten; forgotten; forgotten
-";
 
-const TWO_ROWS: &str = "
+== 2 changes
 # A step that is not answered tells nothing.
 # The third step finds the history full. What the one before it changed is still told.
 session 1 0 0 - allow rw => done | opened
 create 1 1 f 0644 => ino 2 | file
 lookup 1 1 f => stop Full | file
 ";
-
-pub const CASES: &[Case] = &[
-    (100, Changes, TOLD),
-    (100, Changes, STRAYS_GO),
-    (2, Changes, TWO_ROWS),
-];

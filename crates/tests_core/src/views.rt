@@ -5,7 +5,6 @@
 //! `removed INO`, `forgotten INO`, `settled INO | OWNER GROUP MODE`, `opened CLIENT | UID GID | GRANTS`, `ended CLIENT`,
 //! `regranted CLIENT | GRANTS`. Behind one that the view can't follow stands `=> other`.
 
-use crate::asking::Beside::Nothing;
 use crate::asking::core_of;
 use crate::asserting::{made, present, same};
 use crate::values::{attr_of, caller_of, cephfs, grants_of, ino_of, number, part, sides, word};
@@ -86,8 +85,8 @@ fn refuses_who_is_not_connected(rt: &impl Abort, view: &View) {
 }
 
 // Tells the changes to a view of a core that was asked this.
-fn runs(rt: &(impl Abort + AllocGlobal), asks: &'static str, changes: &str) {
-    let core = core_of(rt, (100, Nothing, asks));
+fn runs(rt: &(impl Abort + AllocGlobal), asks: &str, changes: &str) {
+    let core = core_of(rt, asks);
     let mut view = made(rt, View::of(core.tree(), core.sessions()), "a view");
     drop(core);
     play(rt, &mut view, changes);
@@ -141,7 +140,7 @@ born 3 1 d dir
 ";
 
 // A directory with a snapshot, and nobody has a session.
-const A_SNAPSHOT: &str = "
+const A_SNAPSHOT: &str = "100
 session 9 10 10 - allow rws => done
 mkdir 9 1 d 0755 => ino 2
 mksnap 9 2 s => done
@@ -150,8 +149,8 @@ close 9 => done
 
 // What a core was asked whose view it is, and the changes.
 const CASES: [(&str, &str); 3] = [
-    ("", OF_EACH_KIND),
-    ("", OF_ANOTHER),
+    ("100", OF_EACH_KIND),
+    ("100", OF_ANOTHER),
     (A_SNAPSHOT, WITH_A_SNAPSHOT),
 ];
 

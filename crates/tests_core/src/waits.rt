@@ -1,9 +1,7 @@
 //! Who waits for a file, step by step, and what is kept of it.
 
-use crate::asking::Beside::Locks;
-use crate::asking::Case;
-
-const TWO_REQUESTS: &str = "
+pub const CASES: &str = "
+== 100 locks
 # Requests wait until the lock serves them in a row.
 session 1 10 10 - allow rw => done | -; -; -
 session 2 20 20 - allow rw => done | -; -; -
@@ -33,9 +31,8 @@ row 5 => 1.6 get 2 2 F => waiting 2
 row 8 => 1.9 ack 1 2 2 => done; ended 1 done; ended 2 attr F 5 0; of 2; of 2
 row 9 => 1.10 poll 2 1 => messages 1
 row 19 => no row
-";
 
-const SERVED_AT_ONCE: &str = "
+== 100 locks
 # What is served at once has no other end.
 # A request that is served at once has its end in its reply alone.
 session 1 10 10 - allow rw => done | -; -; -
@@ -47,9 +44,8 @@ open 1 2 r => caps 1 pFscr | SYNC; pFscr 1; -
 get 1 2 F => attr F 5 0 | SYNC; pFscr 1; -
 row 2 => 1.3 alter 1 2 size 5 => done
 row 3 => 1.4 get 1 2 F => attr F 5 0
-";
 
-const A_FLUSH: &str = "
+== 100 locks
 # A flush waits for no lock.
 session 1 10 10 - allow rw => done | -; -; -
 session 2 20 20 - allow rw => done | -; -; -
@@ -60,9 +56,8 @@ flush 1 2 size 5 => done | EXCL(1); pFsxcrwb 1; -
 get 1 2 F => attr F 5 0 | EXCL(1); pFsxcrwb 1; -
 open 2 2 r => caps 1 p | EXCL(1) to MIX; pFsxcrwb 2 due; p 1
 flush 1 2 times 9 => done | EXCL(1) to MIX; pFsxcrwb 2 due; p 1
-";
 
-const AN_UNLINKED_FILE: &str = "
+== 100 locks
 # An unlinked file keeps its locks until it is forgotten.
 session 1 10 10 - allow rw => done | -; -; -
 session 2 20 20 - allow rw => done | -; -; -
@@ -79,9 +74,8 @@ get 2 2 F => refused Gone | MIX; -; p 1
 release 2 2 p => done | -; -; -
 get 2 2 F => refused NoIno | -; -; -
 lookup 1 1 f => refused NoEnt | -; -; -
-";
 
-const DENIED_WHEN_SERVED: &str = "
+== 100 locks
 # A denial when served is in the row that serves.
 # What is denied when it is served has moved the lock all the same, and the next request finds it where it is to be.
 session 1 10 10 - allow rw => done | -; -; -
@@ -94,11 +88,3 @@ poll 1 9 => messages 1 /  caps 2 2 pFc | EXCL(1) to LOCK; pFsxcrwb 2; -
 ack 1 2 2 => done | EXCL(1); pFsxcrwb 3 due; -
 row 7 => 1.8 ack 1 2 2 => done; ended 1 denied write 1:11; of 2
 ";
-
-pub const CASES: &[Case] = &[
-    (100, Locks, TWO_REQUESTS),
-    (100, Locks, SERVED_AT_ONCE),
-    (100, Locks, A_FLUSH),
-    (100, Locks, AN_UNLINKED_FILE),
-    (100, Locks, DENIED_WHEN_SERVED),
-];
