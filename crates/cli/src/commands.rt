@@ -140,11 +140,13 @@ fn answer<T: Threads + Wait + Sync, R: Read, W: Write>(
             fs,
             only_denied,
             mds,
+            shape,
         } => {
             let scope = LogScope {
                 fs: fs.as_slice(),
                 only_denied: *only_denied,
                 release: *mds,
+                shape: *shape,
             };
             log(alloc, scope, reader, writer)
         }

@@ -1,11 +1,12 @@
 -- A log that is told of as it is read.
 use Rattle.std.proofs.Common.{◌≡◌, ℕ, ◌+◌, ◌<◌, List, [], ◌++◌, length, Option, Some, None, inl, inr, refl, subst, sym, ◌∙◌, arith, length-append}
+use Rattle.std.proofs.lemmas.List.Concat.{flat_map-append}
 use Rattle.std.specs.Io.KnownBytes.{Appends, Consumes, IsAtEnd}
 use Rattle.std.specs.Prelude.{Bool, IfErr, IfOk, IsErrAnd, IsTrue, Ok, OnOk, Err, Result}
 use Rattle.capspec.specs.Names.{IsFsName}
 use Rattle.texts.specs.declared.fault.ScriptFault.TheVariants as stops
 use Rattle.texts.proofs.KnownBytes.{appends_more, appends_same, appends_stay, consumed_is_there, consumes_nothing, consumes_more, none_appended, none_consumed}
-use Rattle.queries.specs.Reported.{Scope, start}
+use Rattle.queries.specs.Reported.{Item, Scope, start, text_of, text_told}
 use Rattle.queries.specs.Reported.AreReported.{no_more}
 use Rattle.queries.specs.LogPieces.{HasTold, Teller, TellsEnd}
 use Rattle.queries.proofs.LogPieces.{all_of_log, piece_more}
@@ -17,10 +18,10 @@ use Rattle.cli_queries.proofs.WhoAnswered.{all_of}
 -- what is known when so many bytes were read
 pub record SoFar (scope : Scope) (input now old new : Option (List ℕ)) (size : ℕ) (t : Teller) : Type 0 where
   pub taken : List ℕ
-  pub reported : List ℕ
+  pub items : List Item
   pub consumed : Consumes input now taken
-  pub written : Appends old new reported
-  pub tells : HasTold scope taken reported t
+  pub written : Appends old new (text_of scope items)
+  pub tells : HasTold scope taken items t
   pub sized : length taken ≡ size
 
 nothing_told : (scope : Scope) → HasTold scope [] [] (record { state = start; unfinished = [] })
@@ -29,7 +30,7 @@ nothing_told scope = record { ended = []; parted = refl; reported_are = no_more;
 pub begun : (scope : Scope) (input old : Option (List ℕ)) (t : Teller) → t ≡ record { state = start; unfinished = [] } → SoFar scope input input old old 0 t
 begun scope input old t is = record {
   taken = [];
-  reported = [];
+  items = [];
   consumed = none_consumed input;
   written = none_appended old;
   tells = subst (λ (u : Teller). HasTold scope [] [] u) (sym is) (nothing_told scope);
@@ -40,10 +41,11 @@ pub one_more : (scope : Scope) (input now next old mid new : Option (List ℕ)) 
     → after ≡ size + length piece → SoFar scope input next old new after u
 one_more scope input now next old mid new size after t u piece so read wrote larger = record {
   taken = so.taken ++ piece;
-  reported = so.reported ++ wrote.0;
+  items = so.items ++ wrote.0;
   consumed = consumes_more input now next so.taken piece so.consumed read;
-  written = appends_more old mid new so.reported wrote.0 so.written wrote.2;
-  tells = piece_more scope so.taken piece so.reported wrote.0 t u so.tells wrote.1;
+  written = subst (λ (text : List ℕ). Appends old new text) (sym (flat_map-append (text_told scope) so.items wrote.0))
+      (appends_more old mid new (text_of scope so.items) (text_of scope wrote.0) so.written wrote.2);
+  tells = piece_more scope so.taken piece so.items wrote.0 t u so.tells wrote.1;
   sized = omega (arith, length-append so.taken piece, so.sized, larger);
 }
 
@@ -51,15 +53,18 @@ one_more scope input now next old mid new size after t u piece so read wrote lar
 pub tells_first : (scope : Scope) (input now old new : Option (List ℕ)) (size : ℕ) (t : Teller) → SoFar scope input now old new size t → TellsFirst scope input old new
 tells_first scope None now old new size t so = tt
 tells_first scope (Some log) None old new size t so = absurd so.consumed
-tells_first scope (Some log) (Some left) old new size t so = (so.taken, left, so.reported, t, so.consumed, so.tells, so.written)
+tells_first scope (Some log) (Some left) old new size t so = (so.taken, left, so.items, t, so.consumed, so.tells, so.written)
 
 -- all was read, and told
 log_reported : (scope : Scope) (input now left old mid new : Option (List ℕ)) (size : ℕ) (t : Teller) (status : ℕ) → IsFsName scope.fs → SoFar scope input now old mid size t → Consumes now left [] → IsAtEnd left → WritesEnd scope t status mid new
     → AnswersLog scope input status old new
 log_reported scope input now left old mid new size t status named so read end wrote = record {
   named = named;
-  reported = all_of (λ (log : List ℕ). (lines : List ℕ) × TellsLog scope log status lines × Appends old new lines) input left so.taken (consumes_nothing input now left so.taken [] so.consumed read refl) end
-      (so.reported ++ wrote.0, (wrote.1, all_of_log scope so.taken so.reported wrote.0 t wrote.1 so.tells wrote.2, wrote.4), appends_more old mid new so.reported wrote.0 so.written wrote.3);
+  reported = all_of (λ (log : List ℕ). (lines : List ℕ) × TellsLog scope log status lines × Appends old new lines) input left so.taken (consumes_nothing input now left so.taken [] so.consumed read refl) end (
+    text_of scope so.items ++ wrote.0,
+    (wrote.1, all_of_log scope so.taken wrote.0 so.items t wrote.1 so.tells wrote.2, wrote.4),
+    appends_more old mid new (text_of scope so.items) wrote.0 so.written wrote.3,
+  );
 }
 
 pub all_told : (scope : Scope) (input now left old mid new : Option (List ℕ)) (size : ℕ) (t : Teller) (piece : List ℕ) (result : Result ℕ AnswerFault) → IsFsName scope.fs → SoFar scope input now old mid size t → Consumes now left piece → piece ≡ [] → IsAtEnd left
@@ -78,9 +83,9 @@ stops_by : (scope : Scope) (input now old mid new : Option (List ℕ)) (size : �
 stops_by scope input now old mid new size t unread unwritten fault so (inl missed) =
     let still : SoFar scope input now old new size t = record {
       taken = so.taken;
-      reported = so.reported;
+      items = so.items;
       consumed = so.consumed;
-      written = appends_stay old mid new so.reported so.written missed.1;
+      written = appends_stay old mid new (text_of scope so.items) so.written missed.1;
       tells = so.tells;
       sized = so.sized;
     } in

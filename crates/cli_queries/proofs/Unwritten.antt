@@ -82,7 +82,7 @@ told_all Fine form v q old new lines (Ok status) more asks are done written =
 told_all Fine form v q old new lines (Err fault) more asks are done written = tt
 
 -- the same by an object that says all of it
-pub told_object : (Fine : Type 0) (form : Form) (v : Values) (q : Question) (old new : Option (List ℕ)) (object : List ℕ) (answer : Result ℕ AnswerFault) → form ≡ forms.Object → AsksFor v q → object ≡ remarked_object v.grants.items q
+pub told_object : (Fine : Type 0) (form : Form) (v : Values) (q : Question) (old new : Option (List ℕ)) (object : List ℕ) (answer : Result ℕ AnswerFault) → form ≡ forms.Object → AsksFor v q → object ≡ remarked_object None v.grants.items q
     → IfOk answer (λ status. status ≡ 0) → OnOk answer (Fine × Appends old new object) → IfOk answer (λ status. (asked : Question) × AsksFor v asked × IsAnswered form v.grants.items asked status old new)
 told_object Fine form v q old new object (Ok status) whole asks are done written =
     subst (λ (f : Form). (asked : Question) × AsksFor v asked × IsAnswered f v.grants.items asked status old new) (sym whole) (q, asks, (done, subst (λ (text : List ℕ). Appends old new text) are written.1))

@@ -74,14 +74,14 @@ with_grants values grants = record values { grants = grants }
 abbrev pub IsAnswered : Form → List ℕ → Question → ℕ → Option (List ℕ) → Option (List ℕ) → Type 0
 IsAnswered forms.Line text q status old new = (status ≡ 0) × Appends old new (answer_text q ++ codes "\n")
 IsAnswered forms.More text q status old new = (status ≡ 0) × Appends old new (remarked_answer text q)
-IsAnswered forms.Object text q status old new = (status ≡ 0) × Appends old new (remarked_object text q)
+IsAnswered forms.Object text q status old new = (status ≡ 0) × Appends old new (remarked_object None text q)
 IsAnswered forms.Status text q status old new = (status ≡ (if is_allowed (verdict_on q) then 0 else 3)) × Keeps old new
 
 -- the same with what the MDS of a release says, for which there is no more to be said
 abbrev pub IsAnsweredBy : Form → MdsAsking → MdsAnswer → ℕ → Option (List ℕ) → Option (List ℕ) → Type 0
 IsAnsweredBy forms.Line a answer status old new = (status ≡ 0) × Appends old new (lines_by a answer)
 IsAnsweredBy forms.More a answer status old new = (status ≡ 0) × Appends old new (lines_by a answer)
-IsAnsweredBy forms.Object a answer status old new = (status ≡ 0) × Appends old new (object_by a answer)
+IsAnsweredBy forms.Object a answer status old new = (status ≡ 0) × Appends old new (object_by None a answer)
 IsAnsweredBy forms.Status a answer status old new = (status ≡ (if is_allowed_by answer.verdict then 0 else 3)) × Keeps old new
 
 -- what the values ask was answered in this form, by the rules of this server or of a release

@@ -5,7 +5,7 @@ use Rattle.capspec.specs.Names.{IsFsName}
 use Rattle.texts.specs.declared.fault.ScriptFault.TheVariants as stops
 use Rattle.queries.specs.declared.fault.QuestionFault.TheVariants.{BadValue}
 use Rattle.queries.specs.declared.options.Opt.TheVariants.{Fs}
-use Rattle.queries.specs.Reported.{IsReportOf, Scope}
+use Rattle.queries.specs.Reported.{IsReportOf, Item, Scope, text_of}
 use Rattle.queries.specs.LogPieces.{HasTold, Teller, TellsEnd, TellsPiece}
 use Rattle.cli_queries.specs.declared.fault.AnswerFault.{AnswerFault}
 use Rattle.cli_queries.specs.declared.fault.AnswerFault.TheVariants.{NoMemory, Question, Unread, WriteFailed}
@@ -18,18 +18,18 @@ longest_log = 1152921504606846976
 abbrev pub status_of : Bool → ℕ
 status_of judged = if judged then 0 else 3
 
--- the lines that tell of this log, and the status
+-- the text that tells of this log, and the status
 abbrev pub TellsLog : Scope → List ℕ → ℕ → List ℕ → Type 0
 TellsLog scope log status lines = (judged : Bool) × IsReportOf scope log lines judged × (status ≡ status_of judged)
 
--- the lines that tell of the log that was to be read were written
+-- the text that tells of the log that was to be read was written
 pub record AnswersLog (scope : Scope) (input : Option (List ℕ)) (status : ℕ) (old new : Option (List ℕ)) : Type 0 where
   pub named : IsFsName scope.fs
   pub reported : IfSome input (λ log. (lines : List ℕ) × TellsLog scope log status lines × Appends old new lines)
 
 -- what was written tells of the first lines of the log
 abbrev pub TellsFirst : Scope → Option (List ℕ) → Option (List ℕ) → Option (List ℕ) → Type 0
-TellsFirst scope input old new = IfSome input (λ log. (front left reported : List ℕ) × (t : Teller) × (log ≡ front ++ left) × HasTold scope front reported t × Appends old new reported)
+TellsFirst scope input old new = IfSome input (λ log. (front left : List ℕ) × (items : List Item) × (t : Teller) × (log ≡ front ++ left) × HasTold scope front items t × Appends old new (text_of scope items))
 
 -- a read failed, or the log is too long; or memory was missing
 abbrev pub IsUnreadLog : AnswerFault → Option (List ℕ) → Bool → Type 0
@@ -50,7 +50,7 @@ StopsLog scope fault input unread unwritten old new =
 
 -- what is told of the lines that end in a piece was written
 abbrev pub WritesPiece : Scope → Teller → List ℕ → Teller → Option (List ℕ) → Option (List ℕ) → Type 0
-WritesPiece scope t piece next old new = (more : List ℕ) × TellsPiece scope t piece more next × Appends old new more
+WritesPiece scope t piece next old new = (items : List Item) × TellsPiece scope t piece items next × Appends old new (text_of scope items)
 
 -- what is told at the end was written, and this is the status
 abbrev pub WritesEnd : Scope → Teller → ℕ → Option (List ℕ) → Option (List ℕ) → Type 0

@@ -84,6 +84,7 @@ fn value_of(invocation: &Invocation, option: Opt) -> &[u8] {
             fs,
             only_denied: _,
             mds: _,
+            shape: _,
         } => fs.as_slice(),
         Invocation::Compare { addr, .. } => value_or_none(addr),
         _ => b"",

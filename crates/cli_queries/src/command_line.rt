@@ -117,6 +117,8 @@ pub enum Invocation {
         only_denied: bool,
         /// The release by whose rules alone it is; none is this server.
         mds: Option<Release>,
+        /// By lines, or by objects.
+        shape: Shape,
     },
     /// The transcript of a script.
     Run {
@@ -158,6 +160,7 @@ impl Drop for Invocation {
                 fs: _,
                 only_denied: _,
                 mds: _,
+                shape: _,
             } => {}
             Invocation::Run { more: _ } => {}
             Invocation::Serve { more: _ } => {}

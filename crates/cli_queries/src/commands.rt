@@ -123,7 +123,7 @@ fn write_failed<W: Write>(
             write_text(lines.as_slice(), DONE, writer)
         }
         Form::Object => {
-            let object = asking.mds_object(alloc, answer)?;
+            let object = asking.mds_object(alloc, None, answer)?;
             write_text(object.as_slice(), DONE, writer)
         }
         Form::Status => Ok(if answer.verdict.is_allowed() {
@@ -161,7 +161,7 @@ fn write_answer<W: Write>(
             write_text(lines.as_slice(), DONE, writer)
         }
         Form::Object => {
-            let object = question.remarked_object(alloc, values.grants.as_slice())?;
+            let object = question.remarked_object(alloc, None, values.grants.as_slice())?;
             write_text(object.as_slice(), DONE, writer)
         }
         Form::Status => {

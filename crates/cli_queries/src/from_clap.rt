@@ -73,6 +73,7 @@ impl Matched<'_, '_> {
                 fs: self.option(Opt::Fs)?,
                 only_denied: self.says(ONLY_DENIED),
                 mds: self.mds()?,
+                shape: self.shape(),
             }),
             _ => self.on_script(name),
         }

@@ -308,7 +308,7 @@ const EXPLAIN_WORDS: [Word; 18] = [
     ADDRESS,
 ];
 
-const LOG_WORDS: [Word; 3] = [
+const LOG_WORDS: [Word; 4] = [
     Word {
         name: Name::Of(Opt::Fs),
         value: "NAME",
@@ -325,6 +325,7 @@ const LOG_WORDS: [Word; 3] = [
         needs: None,
         bars: &[],
     },
+    PRINTS_JSON,
     BY_RELEASE,
 ];
 

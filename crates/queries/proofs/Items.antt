@@ -1,13 +1,11 @@
 -- What is told of a log is one thing after the other, and its text tells which.
-use Rattle.std.proofs.Common.{◌≡◌, ◌⊎◌, inl, inr, ℕ, ◌+◌, ◌<◌, ◌≤◌, ◌^◌, ◌%◌, Bool, true, false, Option, Some, None, List, [], ◌∷◌, ◌++◌, drop, length, refl}
+use Rattle.std.proofs.Common.{◌≡◌, ◌⊎◌, inl, inr, ℕ, ◌+◌, ◌<◌, ◌≤◌, ◌^◌, ◌%◌, Bool, true, false, Option, Some, None, List, [], ◌∷◌, ◌++◌, drop, length, map, refl}
 use Rattle.std.proofs.Common.{sym, ap, subst, ◌∙◌, append_assoc, arith}
 use Rattle.std.specs.Prelude.{codes, All, IfSome, bytes_eq, is_some, ◌==◌, ◌&&◌, if◌then◌else◌}
 use Rattle.std.specs.Fmt.{decimal}
 use Rattle.std.specs.List.{AllZip, flat_map, list_all}
-use Rattle.std.proofs.lemmas.Bool.{cond_both}
 use Rattle.std.proofs.lemmas.Fmt.{decimal_by_steps}
-use Rattle.std.proofs.lemmas.List.{append-nil, append_cancel_left}
-use Rattle.std.proofs.lemmas.List.Concat.{flat_map-append}
+use Rattle.std.proofs.lemmas.List.{append_cancel_left}
 use Rattle.std.proofs.lemmas.List.Elements.{All-append, All-cons, All-head, All-nil, All-tail}
 use Rattle.capspec.specs.declared.fault.SpecFault.{SpecFault}
 use Rattle.capspec.specs.declared.fault.SpecFaultKind.{SpecFaultKind}
@@ -18,7 +16,6 @@ use Rattle.capgrant.specs.declared.answer.Verdict.{Verdict}
 use Rattle.capgrant.specs.declared.answer.Verdict.TheVariants.{Allowed, Denied}
 use Rattle.capgrant.specs.Access.{access_word}
 use Rattle.capgrant.specs.Question.{Question as Asked}
-use Rattle.capgrant.specs.Verdict.{is_allowed}
 use Rattle.policy_analysis.specs.Left.{left_to_client}
 use Rattle.release_rules.specs.declared.beside.Others.{Others}
 use Rattle.release_grants.specs.declared.grant.Grant.{Grant}
@@ -29,16 +26,17 @@ use Rattle.release_rules.specs.declared.verdict.Verdict.TheVariants as mds
 use Rattle.release_rules.specs.Clients.{client_refuses}
 use Rattle.release_rules.specs.Failing.{may_allow_somewhere}
 use Rattle.release_rules.specs.Releases.{switches_of, version_of}
-use Rattle.release_rules.specs.Verdicts.{is_allowed as mds_allows}
 use Rattle.release_grants.proofs.FewRead.{AreFew, few_read, near_read}
 use Rattle.texts.specs.Lines.{HasNumber}
 use Rattle.texts.specs.Quoting.{is_plain, quoted}
 use Rattle.texts.specs.declared.mds_asked.MdsAccess.{MdsAccess}
-use Rattle.texts.specs.declared.mds_asked.MdsAccess.TheVariants.{Mask as AllOf, One}
+use Rattle.texts.specs.declared.shape.Shape.{Shape}
+use Rattle.texts.specs.declared.shape.Shape.TheVariants.{Lines}
+use Rattle.texts.specs.declared.mds_asked.MdsAccess.TheVariants.{Mask as AllOf}
 use Rattle.texts.specs.Explaining.{path_text, reason_text}
 use Rattle.texts.specs.Mds.{beside_text, mds_line, mds_text, others_lines}
 use Rattle.texts.specs.MdsAsked.{asked_there}
-use Rattle.texts.specs.MdsTold.{HasSmallNumbers}
+use Rattle.texts.specs.MdsTold.{HasMdsGrant, HasSmallNumbers}
 use Rattle.texts.specs.Remarks.{left_line}
 use Rattle.texts.specs.Standing.{fault_word}
 use Rattle.texts.specs.Remarked.{HasNumbers}
@@ -49,12 +47,10 @@ use Rattle.texts.proofs.MdsAnswered.{one_mds_line_to}
 use Rattle.texts.proofs.MdsDistinct.{asked_of as release_named, has_version}
 use Rattle.texts.proofs.Quoted.{bare, bare_to, before_a_line_feed, first_byte}
 use Rattle.texts.proofs.Remarked.{IsOther}
-use Rattle.queries.specs.declared.any_path.AnyPath.{AnyPath}
 use Rattle.queries.specs.declared.fault.QuestionFault.{QuestionFault}
 use Rattle.queries.specs.declared.fault.QuestionFault.TheVariants.{Grants as BadGrants}
 use Rattle.queries.specs.declared.fault.QuestionFault.TheVariants.{BadValue, NoMemory}
 use Rattle.queries.specs.declared.mask.Mask.{Mask}
-use Rattle.queries.specs.declared.mds.MdsAnswer.{MdsAnswer}
 use Rattle.queries.specs.declared.mds.MdsAsking.{MdsAsking}
 use Rattle.queries.specs.declared.mds.NotRead.{NotRead}
 use Rattle.queries.specs.declared.options.Opt.{Opt}
@@ -64,18 +60,19 @@ use Rattle.queries.specs.declared.question.Asking.{Asking}
 use Rattle.queries.specs.declared.question.Question.{Question}
 use Rattle.queries.specs.declared.question.Values.{Values}
 use Rattle.queries.specs.Options.{option_name}
-use Rattle.queries.specs.Mds.{answer_by, mds_question, mounts, not_read_text}
+use Rattle.queries.specs.Mds.{answer_by, lines_by, mds_question, mounts, not_read_text}
 use Rattle.queries.specs.Question.{AsksFor, IsFaultIn, IsFaultOfAsking, verdict_on}
 use Rattle.queries.specs.Remarks.{asked_of, others_on, remarked_answer}
 use Rattle.texts.specs.ScriptLines.{lines}
 use Rattle.queries.specs.Checks.{CheckTexts, HeadTexts, check_of, head_in}
 use Rattle.queries.specs.Before.{BeforeTexts, GivenTexts, given_of, known_of, said_before}
-use Rattle.queries.specs.AnyPath.{HasSmall, any_path_by, any_path_of, any_path_text, is_anywhere}
-use Rattle.queries.specs.Items.{HasLines, IsTellable, Reported, SameOfLine, SameReported, lines_of, reported_in, reported_lines}
-use Rattle.queries.specs.Items.Reported.{answered, bad, formless, judged_by, not_read, pathless, refused, unknown}
+use Rattle.queries.specs.AnyPath.{any_path_text}
+use Rattle.queries.specs.Items.{HasLines, IsOfMask, IsTellable, SameOfLine, SameTold, item_in, reported_in}
+use Rattle.queries.specs.Told.Told.{answered, bad, formless, judged_by, not_read, pathless, refused, unknown}
 use Rattle.queries.specs.Masks.{accesses_of}
-use Rattle.queries.specs.Reported.{AreReported, AreValues, IsAnswered, IsAnsweredBy, IsFaulty, IsFaultyBy, IsReportOf, IsReported, IsUnreadBy, Says, SaysBehind, SaysBy, SaysFault, SaysIf}
-use Rattle.queries.specs.Reported.{Scope, State, answer_lines, asking_all, line_by, passed_line, path_or_root, pathless_line, told_by, told_line, told_pathless, with_access}
+use Rattle.queries.specs.Reported.{AreReported, AreValues, IsAnswered, IsAnsweredBy, IsFaulty, IsFaultyBy, IsReportOf, IsReported, IsUnreadBy, Item, Says, SaysBehind, SaysBy, SaysIf}
+use Rattle.queries.specs.Reported.{Scope, State, TellsFault, answer_there, answer_to, asking_all, of_line, path_or_root, text_of, with_access}
+use Rattle.queries.specs.Told.{Told, is_leave, lines_of, passed_in, passed_line}
 use Rattle.queries.specs.Reported.AreReported.{no_more, one_more}
 use Rattle.queries.specs.Reported.IsReported.{checked, kept, passed_over}
 use Rattle.queries.proofs.LogLines.{few_passed, next_number}
@@ -85,15 +82,11 @@ use Rattle.queries.proofs.Fitting.{AreShort, HasFew, all_asked, few_lines, fits,
 
 -- ---- how the lines begin
 
--- all that a mask asks for
-abbrev all_of : Mask → MdsAccess
-all_of mask = AllOf mask.bits mask.uid mask.gid
-
 -- behind the number
-abbrev said : Reported → List ℕ
-said (answered grants q) = remarked_answer grants q
-said (judged_by mask path verdict) = mds_text (all_of mask) path verdict None
-said (pathless access any) = codes "no path in this line: " ++ any_path_text access any
+abbrev said : Told → List ℕ
+said (answered q grants) = remarked_answer grants q
+said (judged_by a answer) = lines_by a answer
+said (pathless caller access any) = codes "no path in this line: " ++ any_path_text access any
 said formless = codes "a check that is not as an MDS writes it\n"
 said (unknown mask) = codes "unknown mask " ++ (quoted mask ++ codes "\n")
 said (refused fault) = codes "grants: " ++ (fault_word fault.kind ++ (codes " at " ++ (decimal fault.at ++ codes "\n")))
@@ -106,10 +99,10 @@ behind_number number more = decimal number ++ 58 ∷ 32 ∷ more
 bare_number : (number : ℕ) → number < 2 ^ 64 → quoted (decimal number) ≡ decimal number
 bare_number number small = let plain = plain_number number small in rw plain refl
 
-laid_out : (number : ℕ) (reported : Reported) (s : List ℕ) → number < 2 ^ 64 → lines_of number reported ++ s ≡ behind_number number (said reported ++ s)
-laid_out number (answered grants q) s small = append_assoc (decimal number) (codes ": " ++ remarked_answer grants q) s
-laid_out number (judged_by mask path verdict) s small = append_assoc (decimal number) (codes ": " ++ said (judged_by mask path verdict)) s
-laid_out number (pathless access any) s small = append_assoc (decimal number) (codes ": " ++ said (pathless access any)) s
+laid_out : (number : ℕ) (told : Told) (s : List ℕ) → number < 2 ^ 64 → lines_of number told ++ s ≡ behind_number number (said told ++ s)
+laid_out number (answered q grants) s small = append_assoc (decimal number) (codes ": " ++ remarked_answer grants q) s
+laid_out number (judged_by a answer) s small = append_assoc (decimal number) (codes ": " ++ lines_by a answer) s
+laid_out number (pathless caller access any) s small = append_assoc (decimal number) (codes ": " ++ said (pathless caller access any)) s
 laid_out number formless s small = append_assoc (decimal number) (codes ": " ++ said formless) s
 laid_out number (unknown mask) s small = append_assoc (decimal number) (codes ": " ++ said (unknown mask)) s
 laid_out number (refused fault) s small =
@@ -124,23 +117,24 @@ low_number =
     (λ n ds large all s. let is : (ds ++ (48 + n % 10) ∷ []) ++ s ≡ ds ++ ((48 + n % 10) ∷ s) = append_assoc ds ((48 + n % 10) ∷ []) s in omega (arith, ap first_byte is, all ((48 + n % 10) ∷ s)))
 
 -- nothing that is told, and no count at the end, begins as what is said beside an answer
-others : (xs : List (ℕ × Reported)) (passed : ℕ) → All HasLines xs → IsOther (reported_in xs passed)
+others : (xs : List Item) (passed : ℕ) → All HasLines xs → IsOther (reported_in Lines xs passed)
 others [] passed reported = omega arith
 others (x ∷ xs) passed reported =
     let here = All-head HasLines x xs reported in
-    let is : reported_in (x ∷ xs) passed ≡ behind_number x.0 (said x.1 ++ reported_in xs passed) = append_assoc (reported_lines x) (flat_map reported_lines xs) (passed_line passed) ∙ laid_out x.0 x.1 (reported_in xs passed) here.0 in
-    omega (arith, ap first_byte is, low_number x.0 here.0 (58 ∷ 32 ∷ (said x.1 ++ reported_in xs passed)))
+    let is : reported_in Lines (x ∷ xs) passed ≡ behind_number x.0 (said x.1 ++ reported_in Lines xs passed) =
+    append_assoc (lines_of x.0 x.1) (flat_map (item_in Lines) xs) (passed_line passed) ∙ laid_out x.0 x.1 (reported_in Lines xs passed) here.0 in
+    omega (arith, ap first_byte is, low_number x.0 here.0 (58 ∷ 32 ∷ (said x.1 ++ reported_in Lines xs passed)))
 
 -- ---- the kinds of things
 
-abbrev tag : Reported → ℕ
-tag (answered grants q) = 0
+abbrev pub tag : Told → ℕ
+tag (answered q grants) = 0
 tag formless = 1
 tag (unknown mask) = 2
 tag (refused fault) = 3
 tag (bad option) = 4
-tag (pathless access any) = 5
-tag (judged_by mask path verdict) = 6
+tag (pathless caller access any) = 5
+tag (judged_by a answer) = 6
 tag (not_read found) = 7
 
 -- the word of what is asked for begins there with an m: it is a mask
@@ -196,34 +190,35 @@ of_answer q (Denied rules) left beside s =
     let more : List ℕ = codes "\n" ++ (left_line q.attr left ++ others_lines [] beside) in
     ap of_mask (behind_front (access_word q.access) (codes " ") path more s) ∙ no_mask q.access (codes " " ++ (path ++ (more ++ s)))
 
-of_judged : (mask : Mask) (path : List (List ℕ)) (verdict : MdsVerdict) (s : List ℕ) → tag_at (said (judged_by mask path verdict) ++ s) ≡ 6
-of_judged mask path mds.CannotMount s = refl
-of_judged mask path (mds.Allowed grant) s = refl
-of_judged mask path (mds.DependsOnAddress grant) s = refl
-of_judged mask path (mds.Denied rules) s = refl
+of_judged : (access : MdsAccess) (path : List (List ℕ)) (verdict : MdsVerdict) (client : Option ℕ) (s : List ℕ) → IsOfMask access → tag_at (mds_text access path verdict client ++ s) ≡ 6
+of_judged (AllOf bits uid gid) path mds.CannotMount client s fits = refl
+of_judged (AllOf bits uid gid) path (mds.Allowed grant) client s fits = refl
+of_judged (AllOf bits uid gid) path (mds.DependsOnAddress grant) client s fits = refl
+of_judged (AllOf bits uid gid) path (mds.Denied rules) client s fits = refl
+of_judged access path verdict client s fits = absurd fits
 
-has_tag : (reported : Reported) (s : List ℕ) → tag_at (said reported ++ s) ≡ tag reported
-has_tag (answered grants q) s = of_answer (asked_of q) (verdict_on q) (left_to_client (asked_of q) q.grants) (others_on grants q) s
-has_tag (judged_by mask path verdict) s = of_judged mask path verdict s
-has_tag (pathless access any) s = refl
-has_tag formless s = refl
-has_tag (unknown mask) s = refl
-has_tag (refused fault) s =
+has_tag : (told : Told) (s : List ℕ) → IsTellable told → tag_at (said told ++ s) ≡ tag told
+has_tag (answered q grants) s fits = of_answer (asked_of q) (verdict_on q) (left_to_client (asked_of q) q.grants) (others_on grants q) s
+has_tag (judged_by a answer) s fits = of_judged a.access a.asking.path answer.verdict answer.refused s fits.0
+has_tag (pathless caller access any) s fits = refl
+has_tag formless s fits = refl
+has_tag (unknown mask) s fits = refl
+has_tag (refused fault) s fits =
     let more : List ℕ = codes " at " ++ (decimal fault.at ++ codes "\n") in
     ap of_grants (append_assoc (fault_word fault.kind) more s) ∙ no_release fault.kind (more ++ s)
-has_tag (bad option) s = refl
-has_tag (not_read found) s = refl
+has_tag (bad option) s fits = refl
+has_tag (not_read found) s fits = refl
 
 -- ---- options
 
-abbrev option_of : List ℕ → Opt
+abbrev pub option_of : List ℕ → Opt
 option_of word =
     if bytes_eq word (codes "grants") then Grants else (if bytes_eq word (codes "fs") then Fs else (if bytes_eq word (codes "uid") then Uid
     else (if bytes_eq word (codes "gid") then Gid else (if bytes_eq word (codes "groups") then Groups else (if bytes_eq word (codes "path") then Path
     else (if bytes_eq word (codes "owner") then Owner else (if bytes_eq word (codes "group") then Group else (if bytes_eq word (codes "mode") then Mode
     else (if bytes_eq word (codes "access") then AccessWord else Addr)))))))))
 
-has_name : (option : Opt) → (option_of (option_name option) ≡ option) × (list_all is_plain (option_name option) ≡ true)
+pub has_name : (option : Opt) → (option_of (option_name option) ≡ option) × (list_all is_plain (option_name option) ≡ true)
 has_name Grants = (refl, refl)
 has_name Fs = (refl, refl)
 has_name Uid = (refl, refl)
@@ -282,36 +277,39 @@ one_unread f g s t small also same =
         laid : (version at s : List ℕ) → (codes "grants: " ++ ((codes "not read by Ceph " ++ (version ++ (codes " at " ++ at))) ++ codes "\n")) ++ s ≡ codes "grants: not read by Ceph " ++ (version ++ 32 ∷ (codes "at " ++ (at ++ 10 ∷ s)))
         laid version at s = simp append_assoc
 
-one_judged : (m n : Mask) (p q : List (List ℕ)) (v w : MdsVerdict) (s t : List ℕ) → IsTellable (judged_by m p v) → IsTellable (judged_by n q w) → said (judged_by m p v) ++ s ≡ said (judged_by n q w) ++ t
-    → SameReported (judged_by m p v) (judged_by n q w) × (s ≡ t)
-one_judged m n p q v w s t small also same =
-    let line = one_mds_line_to (all_of m) (all_of n) p q v w s t small.0 also.0 small.1 also.1
-    (sym (append_assoc (mds_line (all_of m) p v) (codes "\n") s) ∙ same ∙ append_assoc (mds_line (all_of n) q w) (codes "\n") t) in
-    ((ap mask_of line.0, line.1, line.2), line.3)
-  where
-    mask_of : MdsAccess → Mask
-    mask_of (AllOf bits uid gid) = record { bits = bits; uid = uid; gid = gid }
-    mask_of access = record { bits = 0; uid = 0; gid = 0 }
+small_of : (access : MdsAccess) → IsOfMask access → HasSmallNumbers access
+small_of (AllOf bits uid gid) fits = fits
+small_of access fits = absurd fits
 
-one_said : (x y : Reported) (s t : List ℕ) → IsTellable x → IsTellable y → IsOther s → IsOther t → said x ++ s ≡ said y ++ t → SameReported x y × (s ≡ t)
-one_said (answered grants q) (answered also r) s t p o low too same =
+one_judged : (a b : MdsAccess) (p q : List (List ℕ)) (v w : MdsVerdict) (x y : Option ℕ) (s t : List ℕ) → x ≡ None → y ≡ None → HasSmallNumbers a → HasSmallNumbers b → HasMdsGrant v → HasMdsGrant w
+    → mds_text a p v x ++ s ≡ mds_text b q w y ++ t → ((a ≡ b) × (path_text p ≡ path_text q) × (v ≡ w)) × (s ≡ t)
+one_judged a b p q v w x y s t none too small also low high same =
+    let line = one_mds_line_to a b p q v w s t small also low high (sym (placed a p v x s none) ∙ same ∙ placed b q w y t too) in
+    ((line.0, line.1, line.2), line.3)
+  where
+    placed : (access : MdsAccess) (path : List (List ℕ)) (verdict : MdsVerdict) (client : Option ℕ) (s : List ℕ) → client ≡ None → mds_text access path verdict client ++ s ≡ mds_line access path verdict ++ 10 ∷ s
+    placed access path verdict client s none = ap (λ (r : Option ℕ). mds_text access path verdict r ++ s) none ∙ append_assoc (mds_line access path verdict) (codes "\n") s
+
+one_said : (x y : Told) (s t : List ℕ) → IsTellable x → IsTellable y → IsOther s → IsOther t → said x ++ s ≡ said y ++ t → SameTold x y × (s ≡ t)
+one_said (answered q grants) (answered r also) s t p o low too same =
     one_beside_to (asked_of q) (asked_of r) (verdict_on q) (verdict_on r) (left_to_client (asked_of q) q.grants) (left_to_client (asked_of r) r.grants) (others_on grants q) (others_on also r) s t
     (are_beside grants q p.0 p.1) (are_beside also r o.0 o.1) low too same
-one_said (judged_by m p v) (judged_by n q w) s t small also low too same = one_judged m n p q v w s t small also same
-one_said (pathless a x) (pathless b y) s t p o low too same = one_any_path a b x y s t p.0 o.0 p.1 o.1 (append_cancel_left (codes "no path in this line: ") _ _ same)
+one_said (judged_by a x) (judged_by b y) s t p o low too same =
+    one_judged a.access b.access a.asking.path b.asking.path x.verdict y.verdict x.refused y.refused s t p.2 o.2 (small_of a.access p.0) (small_of b.access o.0) p.1 o.1 same
+one_said (pathless caller a x) (pathless other b y) s t p o low too same = one_any_path a b x y s t p.0 o.0 p.1 o.1 (append_cancel_left (codes "no path in this line: ") _ _ same)
 one_said formless formless s t p o low too same = (tt, append_cancel_left (said formless) s t same)
 one_said (unknown mask) (unknown other) s t p o low too same =
     before_a_line_feed mask other s t (sym (append_assoc (quoted mask) (codes "\n") s) ∙ append_cancel_left (codes "unknown mask ") _ _ same ∙ append_assoc (quoted other) (codes "\n") t)
 one_said (refused fault) (refused other) s t p o low too same = one_fault fault other s t p o same
 one_said (bad option) (bad other) s t p o low too same = one_option option other s t same
 one_said (not_read found) (not_read other) s t p o low too same = one_unread found other s t p o same
-one_said x y s t p o low too same = absurd (let e : tag x ≡ tag y = sym (has_tag x s) ∙ ap tag_at same ∙ has_tag y t in omega (arith, e))
+one_said x y s t p o low too same = absurd (let e : tag x ≡ tag y = sym (has_tag x s p) ∙ ap tag_at same ∙ has_tag y t o in omega (arith, e))
 
-one_thing : (x y : ℕ × Reported) (s t : List ℕ) → HasLines x → HasLines y → IsOther s → IsOther t → reported_lines x ++ s ≡ reported_lines y ++ t → SameOfLine x y × (s ≡ t)
+one_thing : (x y : Item) (s t : List ℕ) → HasLines x → HasLines y → IsOther s → IsOther t → item_in Lines x ++ s ≡ item_in Lines y ++ t → SameOfLine x y × (s ≡ t)
 one_thing x y s t p o low too same =
     let number = number_and 58 32 x.0 y.0 (said x.1 ++ s) (said y.1 ++ t) refl refl p.0 o.0 (sym (laid_out x.0 x.1 s p.0) ∙ same ∙ laid_out y.0 y.1 t o.0) in
-    let reported = one_said x.1 y.1 s t p.1 o.1 low too number.1 in
-    ((number.0, reported.0), reported.1)
+    let told = one_said x.1 y.1 s t p.1 o.1 low too number.1 in
+    ((number.0, told.0), told.1)
 
 -- ---- whole logs
 
@@ -319,121 +317,100 @@ one_count : (m n : ℕ) → m < 2 ^ 64 → n < 2 ^ 64 → passed_line m ≡ pass
 one_count m n small also same = (number_to 10 m n [] [] refl small also (append_cancel_left (codes "lines that are no check of policy: ") (decimal m ++ codes "\n") (decimal n ++ codes "\n") same)).0
 
 -- the count begins as no number does
-no_thing : {A : Type 0} (y : ℕ × Reported) (m : ℕ) (rest : List ℕ) → HasLines y → passed_line m ≡ reported_lines y ++ rest → A
+no_thing : {A : Type 0} (y : Item) (m : ℕ) (rest : List ℕ) → HasLines y → passed_line m ≡ item_in Lines y ++ rest → A
 no_thing y m rest reported same =
     absurd (omega (arith, ap first_byte (same ∙ laid_out y.0 y.1 rest reported.0), low_number y.0 reported.0 (58 ∷ 32 ∷ (said y.1 ++ rest))))
 
-pub one_log : (xs ys : List (ℕ × Reported)) (m n : ℕ) → All HasLines xs → All HasLines ys → m < 2 ^ 64 → n < 2 ^ 64 → reported_in xs m ≡ reported_in ys n → AllZip SameOfLine xs ys × (m ≡ n)
+pub one_log : (xs ys : List Item) (m n : ℕ) → All HasLines xs → All HasLines ys → m < 2 ^ 64 → n < 2 ^ 64 → reported_in Lines xs m ≡ reported_in Lines ys n → AllZip SameOfLine xs ys × (m ≡ n)
 one_log [] [] m n p o small also same = (tt, one_count m n small also same)
-one_log [] (y ∷ ys) m n p o small also same = no_thing y m (reported_in ys n) (All-head HasLines y ys o) (same ∙ append_assoc (reported_lines y) (flat_map reported_lines ys) (passed_line n))
-one_log (x ∷ xs) [] m n p o small also same = no_thing x n (reported_in xs m) (All-head HasLines x xs p) (sym same ∙ append_assoc (reported_lines x) (flat_map reported_lines xs) (passed_line m))
+one_log [] (y ∷ ys) m n p o small also same = no_thing y m (reported_in Lines ys n) (All-head HasLines y ys o) (same ∙ append_assoc (item_in Lines y) (flat_map (item_in Lines) ys) (passed_line n))
+one_log (x ∷ xs) [] m n p o small also same = no_thing x n (reported_in Lines xs m) (All-head HasLines x xs p) (sym same ∙ append_assoc (item_in Lines x) (flat_map (item_in Lines) xs) (passed_line m))
 one_log (x ∷ xs) (y ∷ ys) m n p o small also same =
     let first = All-tail HasLines x xs p in
     let other = All-tail HasLines y ys o in
-    let both = one_thing x y (reported_in xs m) (reported_in ys n) (All-head HasLines x xs p) (All-head HasLines y ys o) (others xs m first) (others ys n other)
-    (sym (append_assoc (reported_lines x) (flat_map reported_lines xs) (passed_line m)) ∙ same ∙ append_assoc (reported_lines y) (flat_map reported_lines ys) (passed_line n)) in
+    let both = one_thing x y (reported_in Lines xs m) (reported_in Lines ys n) (All-head HasLines x xs p) (All-head HasLines y ys o) (others xs m first) (others ys n other)
+    (sym (append_assoc (item_in Lines x) (flat_map (item_in Lines) xs) (passed_line m)) ∙ same ∙ append_assoc (item_in Lines y) (flat_map (item_in Lines) ys) (passed_line n)) in
     let more = one_log xs ys m n first other small also both.1 in
     ((both.0, more.0), more.1)
 
--- ---- what is told of a log
+-- ---- what is told of a check
 
-abbrev AreLines : List ℕ → Type 0
-AreLines text = (xs : List (ℕ × Reported)) × All HasLines xs × (text ≡ flat_map reported_lines xs)
+one : (t : Told) → IsTellable t → All IsTellable (t ∷ [])
+one t fits = All-cons IsTellable t [] fits (All-nil IsTellable)
 
-both : (first more : List ℕ) → AreLines first → AreLines more → AreLines (first ++ more)
-both first more here there =
-    (here.0 ++ there.0, All-append HasLines here.0 there.0 here.1 there.1, ap (λ (r : List ℕ). r ++ more) here.2 ∙ ap (λ (r : List ℕ). flat_map reported_lines here.0 ++ r) there.2 ∙ sym (flat_map-append reported_lines here.0 there.0))
+is_one : (told : List Told) (t : Told) → IsTellable t → told ≡ t ∷ [] → All IsTellable told
+is_one told t fits is = subst (λ (ts : List Told). All IsTellable ts) (sym is) (one t fits)
 
-module _ (number : ℕ) (small : number < 2 ^ 64) where
-  none : (text : List ℕ) → text ≡ [] → AreLines text
-  none text is = ([], All-nil HasLines, is)
+of_access : (grants : List ℕ) (q : Question) (has_path : Bool) (access : Access) → length grants < 2 ^ 63 → HasNumbers (asked_of (with_access q access)) q.grants → IsTellable (answer_to has_path grants q access)
+of_access grants q true access short fit = (fit, short)
+of_access grants q false access short fit = (fit.access, has_small (with_access q access) fit)
 
-  one : (reported : Reported) (text : List ℕ) → IsTellable reported → text ≡ lines_of number reported → AreLines text
-  one reported text fits is = ((number, reported) ∷ [], All-cons HasLines (number, reported) [] (small, fits) (All-nil HasLines), is ∙ sym (append-nil (lines_of number reported)))
+of_accesses : (v : Values) (grants : List ℕ) (q : Question) (has_path : Bool) → length grants < 2 ^ 63 → AsksFor v q → (accesses : List Access) → All HasNumber accesses
+    → All IsTellable (map (answer_to has_path grants q) accesses)
+of_accesses v grants q has_path short asks [] numbers = All-nil IsTellable
+of_accesses v grants q has_path short asks (access ∷ accesses) numbers =
+    All-cons IsTellable (answer_to has_path grants q access) (map (answer_to has_path grants q) accesses)
+    (of_access grants q has_path access short (fits v q access asks (All-head HasNumber access accesses numbers)))
+    (of_accesses v grants q has_path short asks accesses (All-tail HasNumber access accesses numbers))
 
-  -- unless it is left out
-  unless : (left : Bool) (reported : Reported) (text : List ℕ) → IsTellable reported → text ≡ lines_of number reported → AreLines (if left then [] else text)
-  unless left reported text fits is = cond_both left [] text AreLines (λ out. none [] refl) (λ told. one reported text fits is)
+of_fault : (check : CheckTexts) (v : Values) (fault : QuestionFault) (told : Told) → v.grants.items ≡ check.grants → length check.grants < 2 ^ 63 → IsFaultIn v fault → TellsFault fault told → IsTellable told
+of_fault check v (BadGrants fault) told same short first tells = subst IsTellable (sym tells) (omega (arith, near_fault v.grants.items fault first, ap (λ (bytes : List ℕ). length bytes) same, short))
+of_fault check v (BadValue option) told same short first tells = subst IsTellable (sym tells) tt
+of_fault check v NoMemory told same short first tells = absurd tells
 
-  of_any : (only_denied : Bool) (access : MdsAccess) (any : AnyPath) → HasSmallNumbers access → HasSmall any → AreLines (told_pathless only_denied number access any)
-  of_any only_denied access any fits small = unless (only_denied && is_anywhere any) (pathless access any) (pathless_line number access any) (fits, small) refl
+of_values : (given : GivenTexts) (path : List ℕ) (check : CheckTexts) (v : Values) (told : List Told) (has_path : Bool) → length check.grants < 2 ^ 63 → AreValues given path check v
+    → IsAnswered has_path check v told ⊎ IsFaulty v told → All IsTellable told
+of_values given path check v told has_path short values (inl says) =
+    subst (λ (ts : List Told). All IsTellable ts) (sym says.told_is) (of_accesses v check.grants says.question has_path short says.asks (accesses_of says.mask) (all_asked check says.mask says.is_mask))
+of_values given path check v told has_path short values (inr says) = is_one told says.one (of_fault check v says.fault says.one values.grants short says.first says.tells) says.told_is
 
-  of_access : (only_denied : Bool) (grants : List ℕ) (q : Question) (has_path : Bool) (access : Access) → length grants < 2 ^ 63 → HasNumbers (asked_of (with_access q access)) q.grants
-      → AreLines (told_line only_denied has_path number grants q access)
-  of_access only_denied grants q true access short fit =
-      unless (only_denied && is_allowed (verdict_on (with_access q access))) (answered grants (with_access q access)) (answer_lines number grants q access) (fit, short) refl
-  of_access only_denied grants q false access short fit =
-      of_any only_denied (One access) (any_path_of (with_access q access)) fit.access (has_small (with_access q access) fit)
+of_check : (given : GivenTexts) (check : CheckTexts) (told : List Told) → length check.grants < 2 ^ 63 → Says given check told → All IsTellable told
+of_check given check told short (inl says) = is_one told (unknown check.mask) tt says.1
+of_check given check told short (inr says) = of_values given (path_or_root given.path) check says.0 told (is_some given.path) short says.1 says.2
 
-  of_accesses : (v : Values) (only_denied : Bool) (grants : List ℕ) (q : Question) (has_path : Bool) → length grants < 2 ^ 63 → AsksFor v q → (accesses : List Access) → All HasNumber accesses
-      → AreLines (flat_map (told_line only_denied has_path number grants q) accesses)
-  of_accesses v only_denied grants q has_path short asks [] numbers = none [] refl
-  of_accesses v only_denied grants q has_path short asks (access ∷ accesses) numbers =
-      both (told_line only_denied has_path number grants q access) (flat_map (told_line only_denied has_path number grants q) accesses)
-      (of_access only_denied grants q has_path access short (fits v q access asks (All-head HasNumber access accesses numbers)))
-      (of_accesses v only_denied grants q has_path short asks accesses (All-tail HasNumber access accesses numbers))
+-- by a release
+of_release : (has_path : Bool) (release : Release) (grants : List Grant) (mask : Mask) (asking : Asking) (most : ℕ) → HasSmallNumbers (AllOf mask.bits mask.uid mask.gid) → length grants ≤ most → most < 2 ^ 64
+    → IsTellable (answer_there has_path release grants (asking_all mask asking))
+of_release true release grants mask asking most fits few small =
+    let a : MdsAsking = asking_all mask asking in
+    (fits, small_there (switches_of release) (mds_question asking (asked_there a.access)) grants (omega (arith, few, small)), unrefused (mounts (answer_by release a grants).verdict))
+  where
+    unrefused : (b : Bool) → (if b && false then client_refuses (switches_of release) (mds_question asking (asked_there (AllOf mask.bits mask.uid mask.gid))) grants else None) ≡ None
+    unrefused true = refl
+    unrefused false = refl
+of_release false release grants mask asking most fits few small =
+    let a : MdsAsking = asking_all mask asking in (
+      fits,
+      has_small_by (answer_by release a grants).verdict (may_allow_somewhere (switches_of release) (mds_question asking (asked_there a.access))) grants most few small
+          (small_there (switches_of release) (mds_question asking (asked_there a.access)) grants (omega (arith, few, small))),
+    )
 
-  of_fault : (check : CheckTexts) (v : Values) (fault : QuestionFault) (text : List ℕ) → v.grants.items ≡ check.grants → length check.grants < 2 ^ 63 → IsFaultIn v fault → SaysFault number fault text → AreLines text
-  of_fault check v (BadGrants fault) text same short first says = one (refused fault) text (omega (arith, near_fault v.grants.items fault first, ap (λ (bytes : List ℕ). length bytes) same, short)) says
-  of_fault check v (BadValue option) text same short first says = one (bad option) text tt says
-  of_fault check v NoMemory text same short first says = absurd says
+of_values_by : (release : Release) (check : CheckTexts) (v : Values) (told : List Told) (has_path : Bool) → length check.grants < 2 ^ 63 → IsAnsweredBy has_path release check v told ⊎ IsFaultyBy v told → All IsTellable told
+of_values_by release check v told has_path short (inl says) =
+    let few : length says.grants ≤ length check.grants + 1 = subst (AreFew (length check.grants + 1)) says.reads (few_read (switches_of release) check.grants) in
+    is_one told (answer_there has_path release says.grants (asking_all says.mask says.asking))
+    (of_release has_path release says.grants says.mask says.asking (length check.grants + 1) (says.numbers.bits.small, says.numbers.uid.small, says.numbers.gid.small) few (omega (arith, short))) says.told_is
+of_values_by release check v told has_path short (inr says) = is_one told says.one (of_fault_by says.fault says.first says.one says.tells) says.told_is
+  where
+    of_fault_by : (fault : QuestionFault) → IsFaultOfAsking v (codes "read") fault → (t : Told) → TellsFault fault t → IsTellable t
+    of_fault_by (BadGrants fault) first t tells = absurd first
+    of_fault_by (BadValue option) first t tells = subst IsTellable (sym tells) tt
+    of_fault_by NoMemory first t tells = absurd tells
 
-  of_values : (only_denied : Bool) (given : GivenTexts) (path : List ℕ) (check : CheckTexts) (v : Values) (text : List ℕ) (has_path judged : Bool) → length check.grants < 2 ^ 63 → AreValues given path check v
-      → IsAnswered number only_denied has_path check v text judged ⊎ (IsFaulty number v text × (judged ≡ false)) → AreLines text
-  of_values only_denied given path check v text has_path judged short values (inl says) =
-      let reported = of_accesses v only_denied check.grants says.question has_path short says.asks (accesses_of says.mask) (all_asked check says.mask says.is_mask) in
-      (reported.0, reported.1, says.more_is ∙ reported.2)
-  of_values only_denied given path check v text has_path judged short values (inr says) = of_fault check v says.0.fault text values.grants short says.0.first says.0.says
+of_unread : (release : Release) (check : CheckTexts) (told : List Told) → length check.grants < 2 ^ 63 → IsUnreadBy release check told → All IsTellable told
+of_unread release check told short says =
+    is_one told (not_read says.found) (omega (arith, short, near_read (switches_of release) check.grants (record { at = says.found.at }) says.is_fault.1)) says.told_is
 
-  of_check : (only_denied : Bool) (given : GivenTexts) (check : CheckTexts) (text : List ℕ) (judged : Bool) → length check.grants < 2 ^ 63 → Says number only_denied given check text judged → AreLines text
-  of_check only_denied given check text judged short (inl says) = one (unknown check.mask) text tt says.1
-  of_check only_denied given check text judged short (inr says) = of_values only_denied given (path_or_root given.path) check says.0 text (is_some given.path) judged short says.1 says.2
+of_check_by : (release : Option Release) (given : GivenTexts) (check : CheckTexts) (told : List Told) → length check.grants < 2 ^ 63 → SaysBy release given check told → All IsTellable told
+of_check_by None given check told short says = of_check given check told short says
+of_check_by (Some release) given check told short (inl says) = is_one told (unknown check.mask) tt says.1
+of_check_by (Some release) given check told short (inr (inl says)) = of_unread release check told short says
+of_check_by (Some release) given check told short (inr (inr says)) = of_values_by release check says.0 told (is_some given.path) short says.2
 
-  -- by a release
-  of_release : (only_denied has_path : Bool) (release : Release) (grants : List Grant) (mask : Mask) (asking : Asking) (most : ℕ) → HasSmallNumbers (all_of mask) → length grants ≤ most → most < 2 ^ 64
-      → AreLines (told_by only_denied has_path number release grants (asking_all mask asking))
-  of_release only_denied true release grants mask asking most fits few small =
-      let a : MdsAsking = asking_all mask asking in
-      let answer : MdsAnswer = answer_by release a grants in
-      unless (only_denied && mds_allows answer.verdict) (judged_by mask asking.path answer.verdict) (line_by number a answer)
-      (fits, small_there (switches_of release) (mds_question asking (asked_there a.access)) grants (omega (arith, few, small))) (ap (λ (refused : Option ℕ). decimal number ++ (codes ": " ++ mds_text a.access asking.path answer.verdict refused)) (unrefused (mounts answer.verdict)))
-    where
-      unrefused : (b : Bool) → (if b && false then client_refuses (switches_of release) (mds_question asking (asked_there (all_of mask))) grants else None) ≡ None
-      unrefused true = refl
-      unrefused false = refl
-  of_release only_denied false release grants mask asking most fits few small =
-      let a : MdsAsking = asking_all mask asking in
-      of_any only_denied a.access (any_path_by release a grants) fits
-      (has_small_by (answer_by release a grants).verdict (may_allow_somewhere (switches_of release) (mds_question asking (asked_there a.access))) grants most few small
-      (small_there (switches_of release) (mds_question asking (asked_there a.access)) grants (omega (arith, few, small))))
-
-  of_values_by : (only_denied : Bool) (release : Release) (check : CheckTexts) (v : Values) (text : List ℕ) (has_path judged : Bool) → length check.grants < 2 ^ 63
-      → IsAnsweredBy number only_denied has_path release check v text judged ⊎ (IsFaultyBy number v text × (judged ≡ false)) → AreLines text
-  of_values_by only_denied release check v text has_path judged short (inl says) =
-      let few : length says.grants ≤ length check.grants + 1 = subst (AreFew (length check.grants + 1)) says.reads (few_read (switches_of release) check.grants) in
-      let reported = of_release only_denied has_path release says.grants says.mask says.asking (length check.grants + 1) (says.numbers.bits.small, says.numbers.uid.small, says.numbers.gid.small) few (omega (arith, short)) in
-      (reported.0, reported.1, says.more_is ∙ reported.2)
-  of_values_by only_denied release check v text has_path judged short (inr says) = of_fault_by says.0.fault says.0.first says.0.says
-    where
-      of_fault_by : (fault : QuestionFault) → IsFaultOfAsking v (codes "read") fault → SaysFault number fault text → AreLines text
-      of_fault_by (BadGrants fault) first told = absurd first
-      of_fault_by (BadValue option) first told = one (bad option) text tt told
-      of_fault_by NoMemory first told = absurd told
-
-  of_unread : (release : Release) (check : CheckTexts) (text : List ℕ) → length check.grants < 2 ^ 63 → IsUnreadBy number release check text → AreLines text
-  of_unread release check text short says = one (not_read says.found) text (omega (arith, short, near_read (switches_of release) check.grants (record { at = says.found.at }) says.is_fault.1)) says.says
-
-  of_check_by : (release : Option Release) (only_denied : Bool) (given : GivenTexts) (check : CheckTexts) (text : List ℕ) (judged : Bool) → length check.grants < 2 ^ 63
-      → SaysBy release number only_denied given check text judged → AreLines text
-  of_check_by None only_denied given check text judged short says = of_check only_denied given check text judged short says
-  of_check_by (Some release) only_denied given check text judged short (inl says) = one (unknown check.mask) text tt says.1
-  of_check_by (Some release) only_denied given check text judged short (inr (inl says)) = of_unread release check text short says.0
-  of_check_by (Some release) only_denied given check text judged short (inr (inr says)) = of_values_by only_denied release check says.0 text (is_some given.path) judged short says.2
-
-  of_form : (scope : Scope) (name : Option (List ℕ)) (before : Option BeforeTexts) (check : Option CheckTexts) (text : List ℕ) (judged : Bool) → IfSome check (λ c. length c.grants < 2 ^ 63)
-      → SaysIf number scope name before check text judged → AreLines text
-  of_form scope name before None text judged short says = one formless text tt says.0
-  of_form scope name before (Some check) text judged short says = of_check_by scope.release scope.only_denied (given_of scope.fs name (known_of check before) check) check text judged short says
+of_form : (scope : Scope) (name : Option (List ℕ)) (before : Option BeforeTexts) (check : Option CheckTexts) (told : List Told) → IfSome check (λ c. length c.grants < 2 ^ 63)
+    → SaysIf scope name before check told → All IsTellable told
+of_form scope name before None told short says = is_one told formless tt says
+of_form scope name before (Some check) told short says = of_check_by scope.release (given_of scope.fs name (known_of check before) check) check told short says
 
 -- the grants of a check in a line of a short log
 short_check_of : (most : ℕ) (text : List ℕ) → length text ≤ most → most < 2 ^ 63 → IfSome (check_of text) (λ c. length c.grants < 2 ^ 63)
@@ -443,29 +420,49 @@ short_check_of most text inside short = by_check (check_of text) (short_grants t
     by_check None fit = tt
     by_check (Some check) fit = omega (arith, fit, inside, short)
 
-of_head : (number : ℕ) (scope : Scope) (before : Option BeforeTexts) (most : ℕ) (head : Option HeadTexts) (text : List ℕ) (judged : Bool) → number < 2 ^ 64 → most < 2 ^ 63 → HasFew most head
-    → SaysBehind number scope before head text judged → AreLines text
-of_head number scope before most None text judged small short few says = one number small formless text tt says.0
-of_head number scope before most (Some (name, parts)) text judged small short few says = of_form number small scope name before (check_of parts) text judged (short_check_of most parts few short) says
+of_head : (scope : Scope) (before : Option BeforeTexts) (most : ℕ) (head : Option HeadTexts) (told : List Told) → most < 2 ^ 63 → HasFew most head → SaysBehind scope before head told → All IsTellable told
+of_head scope before most None told short few says = is_one told formless tt says
+of_head scope before most (Some (name, parts)) told short few says = of_form scope name before (check_of parts) told (short_check_of most parts few short) says
 
-of_line : {scope : Scope} {line text : List ℕ} {s next : State} (most : ℕ) → s.number < 2 ^ 64 → most < 2 ^ 63 → length line ≤ most → IsReported scope s line text next → AreLines text
-of_line {s} most small short few (kept before) = none s.number small [] refl
-of_line {s} most small short few (passed_over other without) = none s.number small [] refl
-of_line {scope} {line} {text} {s} most small short few (checked parts more judged other is says) =
-    of_head s.number scope (said_before s.before) most (head_in parts) more judged small short (short_head most parts (short_check most line parts few is)) says
+-- ---- what is told of a log
 
-of_lines : {scope : Scope} {text : List ℕ} {s end : State} (most : ℕ) (log : List (List ℕ)) → s.number + length log < 2 ^ 64 → most < 2 ^ 63 → AreShort most log → AreReported scope s log text end → AreLines text
-of_lines most [] small short few no_more = ([], All-nil HasLines, refl)
+numbered : (number : ℕ) → number < 2 ^ 64 → (told : List Told) → All IsTellable told → All HasLines (of_line number told)
+numbered number small [] fits = All-nil HasLines
+numbered number small (t ∷ told) fits = All-cons HasLines (number, t) (of_line number told) (small, All-head IsTellable t told fits) (numbered number small told (All-tail IsTellable t told fits))
+
+of_one_line : {scope : Scope} {line : List ℕ} {items : List Item} {s next : State} (most : ℕ) → s.number < 2 ^ 64 → most < 2 ^ 63 → length line ≤ most → IsReported scope s line items next → All HasLines items
+of_one_line most small short few (kept before) = All-nil HasLines
+of_one_line most small short few (passed_over other without) = All-nil HasLines
+of_one_line {scope} {line} {items} {s} most small short few (checked parts told other is says) =
+    numbered s.number small told (of_head scope (said_before s.before) most (head_in parts) told short (short_head most parts (short_check most line parts few is)) says)
+
+of_lines : {scope : Scope} {items : List Item} {s end : State} (most : ℕ) (log : List (List ℕ)) → s.number + length log < 2 ^ 64 → most < 2 ^ 63 → AreShort most log → AreReported scope s log items end → All HasLines items
+of_lines most [] small short few no_more = All-nil HasLines
 of_lines most (line ∷ log) small short few (one_more first more says others) =
-    both first more (of_line most (omega (arith, small)) short few.0 says) (of_lines most log (omega (arith, small, next_number says)) short few.1 others)
+    All-append HasLines first more (of_one_line most (omega (arith, small)) short few.0 says) (of_lines most log (omega (arith, small, next_number says)) short few.1 others)
 
-few_at_end : {scope : Scope} {text : List ℕ} {s end : State} (log : List (List ℕ)) → AreReported scope s log text end → end.passed ≤ s.passed + length log
+few_at_end : {scope : Scope} {items : List Item} {s end : State} (log : List (List ℕ)) → AreReported scope s log items end → end.passed ≤ s.passed + length log
 few_at_end [] no_more = omega arith
 few_at_end (line ∷ log) (one_more first more says others) = omega (arith, few_at_end log others, few_passed says)
 
+-- those that are not left out
+abbrev FewerTold : Scope → List Item → Type 0
+FewerTold scope items = (xs : List Item) × All HasLines xs × (text_of scope items ≡ flat_map (item_in scope.shape) xs)
+
+unless : (left : Bool) (shape : Shape) (item : Item) (text : List ℕ) (xs : List Item) → HasLines item → All HasLines xs → text ≡ flat_map (item_in shape) xs
+    → (ys : List Item) × All HasLines ys × ((if left then [] else item_in shape item) ++ text ≡ flat_map (item_in shape) ys)
+unless true shape item text xs fits all is = (xs, all, is)
+unless false shape item text xs fits all is = (item ∷ xs, All-cons HasLines item xs fits all, ap (λ (t : List ℕ). item_in shape item ++ t) is)
+
+fewer : (scope : Scope) (items : List Item) → All HasLines items → FewerTold scope items
+fewer scope [] all = ([], All-nil HasLines, refl)
+fewer scope (item ∷ items) all =
+    let rest = fewer scope items (All-tail HasLines item items all) in
+    unless (scope.only_denied && is_leave item.1) scope.shape item (text_of scope items) rest.0 (All-head HasLines item items all) rest.1 rest.2
+
 pub each_has_its_lines : (scope : Scope) (log reported : List ℕ) (judged : Bool) → length log < 2 ^ 62 → IsReportOf scope log reported judged
-    → (xs : List (ℕ × Reported)) × (passed : ℕ) × All HasLines xs × (passed < 2 ^ 64) × (reported ≡ reported_in xs passed)
+    → (xs : List Item) × (passed : ℕ) × All HasLines xs × (passed < 2 ^ 64) × (reported ≡ reported_in scope.shape xs passed)
 each_has_its_lines scope log reported judged short says =
-    let end : State = says.1 in
-    let front = of_lines (length log) (lines log) (omega (arith, short, few_lines log)) (omega (arith, short)) (short_lines log) says.2 in
-    (front.0, end.passed, front.1, omega (arith, short, few_lines log, few_at_end (lines log) says.2), says.3 ∙ ap (λ (r : List ℕ). r ++ passed_line end.passed) front.2)
+    let are = says.2.1 in
+    let told = fewer scope says.0 (of_lines (length log) (lines log) (omega (arith, short, few_lines log)) (omega (arith, short)) (short_lines log) are) in
+    (told.0, says.1, told.1, omega (arith, short, few_lines log, few_at_end (lines log) are, says.2.2), says.3 ∙ ap (λ (r : List ℕ). r ++ passed_in scope.shape says.1) told.2)

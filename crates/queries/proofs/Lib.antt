@@ -15,8 +15,9 @@ pub mod LogLines
 pub mod LogPieces
 pub mod Fitting
 pub mod AnyPaths
-pub mod Told
+pub mod LogTold
 pub mod FewThere
 pub mod Items
+pub mod LogObjects
 pub mod WrittenChecks
 pub mod ComparedBy

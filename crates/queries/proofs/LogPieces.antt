@@ -1,10 +1,12 @@
 -- Pieces of a log, one behind the other.
-use Rattle.std.proofs.Common.{◌≡◌, inl, inr, ℕ, ◌+◌, Bool, true, false, List, [], ◌∷◌, ◌++◌, length, refl, sym, ap, subst, ◌∙◌, append_assoc, arith}
+use Rattle.std.proofs.Common.{◌≡◌, inl, inr, ℕ, ◌+◌, Bool, false, List, [], ◌∷◌, ◌++◌, refl, sym, ap, subst, ◌∙◌, append_assoc, arith}
 use Rattle.std.proofs.Common.{length-append}
 use Rattle.std.specs.List.{onto_first}
+use Rattle.std.proofs.lemmas.List.Concat.{flat_map-append}
 use Rattle.std.proofs.lemmas.Bool.{cases_Bool, cond-false, cond-true, cond_both}
 use Rattle.texts.specs.ScriptLines.{is_line_feed, lines}
-use Rattle.queries.specs.Reported.{AreReported, IsReportOf, Scope, State, passed_line, start}
+use Rattle.queries.specs.Reported.{AreReported, IsReportOf, Item, Scope, State, start, text_of, text_told}
+use Rattle.queries.specs.Told.{passed_in}
 use Rattle.queries.specs.LogPieces.{HasTold, Teller, TellsEnd, TellsLines, TellsPiece}
 use Rattle.queries.proofs.LogLines.{SoFar, alone, one_after_the_other}
 
@@ -61,32 +63,40 @@ goes_on log piece last ended is = of_both log piece ∙ ap (λ (ls : List (List 
 
 -- ---- what is told of them
 
-pub piece_more : (scope : Scope) (log piece reported more : List ℕ) (t next : Teller) → HasTold scope log reported t → TellsPiece scope t piece more next → HasTold scope (log ++ piece) (reported ++ more) next
-piece_more scope log piece reported more t next so says = record {
+pub piece_more : (scope : Scope) (log piece : List ℕ) (items more : List Item) (t next : Teller) → HasTold scope log items t → TellsPiece scope t piece more next → HasTold scope (log ++ piece) (items ++ more) next
+piece_more scope log piece items more t next so says = record {
   ended = so.ended ++ says.ended;
   parted =
       goes_on log piece t.unfinished so.ended so.parted ∙ ap (λ (ls : List (List ℕ)). so.ended ++ ls) says.parted ∙ sym (append_assoc so.ended says.ended (next.unfinished ∷ []));
-  reported_are = one_after_the_other scope start t.state next.state so.ended says.ended reported more so.reported_are says.reported;
+  reported_are = one_after_the_other scope start t.state next.state so.ended says.ended items more so.reported_are says.reported;
   left = omega (arith, so.left, says.left, length-append t.unfinished piece, length-append log piece);
   few = says.few;
 }
 
-pub all_of_log : (scope : Scope) (log reported more : List ℕ) (t : Teller) (judged : Bool) → HasTold scope log reported t → TellsEnd scope t more judged → IsReportOf scope log (reported ++ more) judged
-all_of_log scope log reported more t judged so says = (
-  reported ++ says.last,
-  says.end,
-  subst (λ (ls : List (List ℕ)). AreReported scope start ls (reported ++ says.last) says.end) (sym so.parted)
-      (one_after_the_other scope start t.state says.end so.ended (t.unfinished ∷ []) reported says.last so.reported_are (alone scope t.unfinished says.last t.state says.end says.reported)),
-  ap (λ (m : List ℕ). reported ++ m) says.more_is ∙ sym (append_assoc reported says.last (passed_line says.end.passed)),
-  says.judged_is,
+-- the text of what was told so far, and of what is told at the end
+pub all_of_log : (scope : Scope) (log more : List ℕ) (items : List Item) (t : Teller) (judged : Bool) → HasTold scope log items t → TellsEnd scope t more judged → IsReportOf scope log (text_of scope items ++ more) judged
+all_of_log scope log more items t judged so says = (
+  items ++ says.last,
+  says.end.passed,
+  (
+    says.end,
+    subst (λ (ls : List (List ℕ)). AreReported scope start ls (items ++ says.last) says.end) (sym so.parted)
+        (one_after_the_other scope start t.state says.end so.ended (t.unfinished ∷ []) items says.last so.reported_are (alone scope t.unfinished says.last t.state says.end says.reported)),
+    refl,
+    says.judged_is,
+  ),
+  ap (λ (m : List ℕ). text_of scope items ++ m) says.more_is
+      ∙ sym (append_assoc (text_of scope items) (text_of scope says.last) (passed_in scope.shape says.end.passed))
+      ∙ ap (λ (m : List ℕ). m ++ passed_in scope.shape says.end.passed) (sym (flat_map-append (text_told scope) items says.last)),
 )
 
 -- ---- the lines of one text
 
 -- the line that is left has not ended
-pub lines_told : (scope : Scope) (text rest front reported : List ℕ) (old s : State) → SoFar scope text rest front reported old s → lines rest ≡ rest ∷ [] → (more : List ℕ) × (reported ≡ front ++ more) × TellsLines scope old text more rest s
+pub lines_told : (scope : Scope) (text rest front reported : List ℕ) (old s : State) → SoFar scope text rest front reported old s → lines rest ≡ rest ∷ []
+    → (items : List Item) × (reported ≡ front ++ text_of scope items) × TellsLines scope old text rest items s
 lines_told scope text rest front reported old s so last = (
-  so.more,
+  so.items,
   so.told_is,
   record {
     ended = so.ended;

@@ -17,6 +17,7 @@ pub mod Before
 pub mod WrittenChecks
 pub mod AnyPath
 pub mod Masks
+pub mod Told
 pub mod Reported
 pub mod LogPieces
 pub mod Items

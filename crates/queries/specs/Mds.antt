@@ -86,5 +86,5 @@ abbrev pub asked_by : Asking → Asked
 asked_by a = question a.fs a.caller a.path a.attr a.access
 
 -- as an object
-abbrev pub object_by : MdsAsking → MdsAnswer → List ℕ
-object_by a answer = mds_object answer.release a.access (asked_by a.asking) answer.verdict answer.refused
+abbrev pub object_by : Option ℕ → MdsAsking → MdsAnswer → List ℕ
+object_by number a answer = mds_object number answer.release a.access (asked_by a.asking) answer.verdict answer.refused

@@ -1,5 +1,5 @@
 -- The answer to a question with all that is worth a word beside it.
-use Rattle.std.specs.Prelude.{List, None, ℕ}
+use Rattle.std.specs.Prelude.{List, None, Option, ℕ}
 use Rattle.capgrant.specs.Question.{Question as Asked}
 use Rattle.capgrant.specs.Question.{question}
 use Rattle.policy_analysis.specs.Left.{left_to_client}
@@ -29,5 +29,5 @@ abbrev pub remarked_answer : List ℕ → Question → List ℕ
 remarked_answer text q = beside_text (asked_of q) (verdict_on q) (left_to_client (asked_of q) q.grants) (others_on text q)
 
 -- the object that says all of it
-abbrev pub remarked_object : List ℕ → Question → List ℕ
-remarked_object text q = answer_object (asked_of q) (verdict_on q) (left_to_client (asked_of q) q.grants) (others_on text q)
+abbrev pub remarked_object : Option ℕ → List ℕ → Question → List ℕ
+remarked_object number text q = answer_object number (asked_of q) (verdict_on q) (left_to_client (asked_of q) q.grants) (others_on text q)

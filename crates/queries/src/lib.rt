@@ -22,7 +22,6 @@ mod linting;
 mod lists;
 mod log_by;
 mod log_laws;
-mod log_manner;
 mod log_scope;
 mod log_text;
 mod mask;
@@ -32,6 +31,7 @@ mod modes;
 mod options;
 mod question;
 mod remarks;
+mod told;
 mod values;
 mod words;
 

@@ -1,6 +1,7 @@
 //! What is to be told of a log.
 
 use release_rules::Release;
+use texts::Shape;
 
 /// On which file system, of which checks, and by which rules.
 #[derive(Clone, Copy)]
@@ -11,4 +12,15 @@ pub struct LogScope<'a> {
     pub only_denied: bool,
     /// The release by whose rules alone is judged, or none: by those of this server.
     pub release: Option<Release>,
+    /// By lines, or by objects.
+    pub shape: Shape,
+}
+
+/// A line of a log.
+#[derive(Clone, Copy)]
+pub(crate) struct LogLine<'a> {
+    /// What is to be told of the log.
+    pub(crate) scope: LogScope<'a>,
+    /// The number of the line, from 1.
+    pub(crate) number: u64,
 }

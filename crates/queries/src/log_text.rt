@@ -1,25 +1,26 @@
 //! The lines that tell of a log.
-ghost use Rattle.std.specs.Prelude.{◌≡◌, ◌++◌, ◌+◌, ◌<◌, ◌^◌, false, true, ℕ, List, length, option_map, IfOk, OnOk};
-ghost use Rattle.std.specs.List.{flat_map, list_all};
+ghost use Rattle.std.specs.Prelude.{◌≡◌, ◌++◌, ◌+◌, ◌<◌, ◌^◌, [], ◌∷◌, false, List, length, map, option_map, IfOk, OnOk};
+ghost use Rattle.std.specs.List.{list_all};
 ghost use Rattle.queries.specs.Before.{before_texts_of, given_texts_of};
 ghost use Rattle.queries.specs.Checks.{head_in, texts_of};
 ghost use Rattle.queries.specs.LogPieces.{TellsLines};
-ghost use Rattle.queries.specs.Reported.{IsReported, Says, SaysBehind, SaysFault, answer_lines, formless_line, is_answer, passed_line, scope_of};
-ghost use Rattle.queries.specs.Reported.{state_of, told_line, unknown_line};
+ghost use Rattle.queries.specs.Told.{Told as ATold};
+ghost use Rattle.queries.specs.Told.{is_judgement, passed_in};
+ghost use Rattle.queries.specs.Reported.{IsReported, Item, Says, SaysBehind, TellsFault, answer_to, of_line, scope_of, state_of, text_of};
 
 use crate::before::{Before, Given, given_for, is_before, said_before};
 use crate::check::{Check, check_in, read_check, read_head};
 use crate::fault::QuestionFault;
 use crate::log_by::print_by_release;
-use crate::log_manner::{Manner, print_any};
-use crate::log_scope::LogScope;
+use crate::log_scope::{LogLine, LogScope};
 use crate::mask::{accesses, read_mask};
 use crate::question::Question;
+use crate::told::{Told, print_told};
 use crate::values::{fill, no_values};
-use capbits::{print, print_number};
+use capbits::print;
 use capgrant::Access;
 use std::alloc::{AllocError, Global};
-use texts::{MdsAccess, print_quoted, print_unread, split_line};
+use texts::{MdsAccess, Piece, Shape, print_pieces, split_line};
 
 // Where the telling of a log is.
 struct LogState {
@@ -67,7 +68,7 @@ impl Drop for LogTeller {
 impl LogTeller {
     ghost use Rattle.std.specs.Prelude.{◌≡◌, ◌++◌, ◌+◌, ◌<◌, ◌^◌, [], ℕ, List, length, IfOk, OnOk};
     ghost use Rattle.queries.specs.LogPieces.{TellsEnd, TellsPiece, teller_of};
-    ghost use Rattle.queries.specs.Reported.{scope_of, start};
+    ghost use Rattle.queries.specs.Reported.{Item, scope_of, start, text_of};
 
     /// Before the first piece.
     pub fn new(alloc: Global) -> LogTeller
@@ -88,8 +89,8 @@ impl LogTeller {
     ) -> Result<(), AllocError>
         requires room { (teller_of self.old).state.number + length (teller_of self.old).unfinished + length piece.now < 2 ^ 64 }
         requires few { (teller_of self.old).state.passed < (teller_of self.old).state.number }
-        ensures { OnOk result ((more : List ℕ) × (reported.new.items ≡ reported.old.items ++ more)
-            × TellsPiece (scope_of scope.entry) (teller_of self.old) piece.now more (teller_of self.new)) }
+        ensures { OnOk result ((items : List Item) × (reported.new.items ≡ reported.old.items ++ text_of (scope_of scope.entry) items)
+            × TellsPiece (scope_of scope.entry) (teller_of self.old) piece.now items (teller_of self.new)) }
     {
         self.unfinished.extend_from_slice(piece)?;
         let rest = print_lines(reported, &mut self.state, scope, self.unfinished.as_slice())?;
@@ -110,7 +111,7 @@ impl LogTeller {
             × TellsEnd (scope_of scope.entry) (teller_of self.old) more judged) }
     {
         print_line(reported, &mut self.state, scope, self.unfinished.as_slice())?;
-        print_passed(reported, self.state.passed)?;
+        print_passed(reported, scope.shape, self.state.passed)?;
         Ok(self.state.is_judged)
     }
 }
@@ -167,13 +168,16 @@ impl LogState {
 }
 
 // How many lines are no checks.
-fn print_passed(reported: &mut Vec<u8>, passed: u64) -> Result<(), AllocError>
-    ensures { OnOk result (reported.new.items ≡ reported.old.items ++ passed_line passed) }
+fn print_passed(reported: &mut Vec<u8>, shape: Shape, passed: u64) -> Result<(), AllocError>
+    ensures { OnOk result (reported.new.items ≡ reported.old.items ++ passed_in shape passed) }
 {
-    print(
-        reported,
-        format_args!("lines that are no check of policy: {passed}\n"),
-    )
+    match shape {
+        Shape::Lines => print(
+            reported,
+            format_args!("lines that are no check of policy: {passed}\n"),
+        ),
+        Shape::Objects => print_pieces(reported, &[("passed_over", Piece::Number(passed))]),
+    }
 }
 
 // Appends what is told of the lines that end in the text, and answers what is left behind them.
@@ -185,8 +189,8 @@ fn print_lines<'a>(
 ) -> Result<&'a [u8], AllocError>
     requires room { state.old.number + length text.now < 2 ^ 64 }
     requires few { state.old.passed < state.old.number }
-    ensures { IfOk result (λ rest. (more : List ℕ) × (reported.new.items ≡ reported.old.items ++ more)
-        × TellsLines (scope_of scope.entry) (state_of state.old) text.now more rest.now (state_of state.new)) }
+    ensures { IfOk result (λ rest. (items : List Item) × (reported.new.items ≡ reported.old.items ++ text_of (scope_of scope.entry) items)
+        × TellsLines (scope_of scope.entry) (state_of state.old) text.now rest.now items (state_of state.new)) }
 {
     let mut rest = text;
     while let Some((line, behind)) = split_line(rest) {
@@ -205,8 +209,8 @@ fn print_line(
 ) -> Result<(), AllocError>
     requires room { state.old.number + 1 < 2 ^ 64 }
     requires few { state.old.passed < state.old.number }
-    ensures { OnOk result ((more : List ℕ) × (reported.new.items ≡ reported.old.items ++ more)
-        × IsReported (scope_of scope.entry) (state_of state.old) line.now more (state_of state.new)) }
+    ensures { OnOk result ((items : List Item) × (reported.new.items ≡ reported.old.items ++ text_of (scope_of scope.entry) items)
+        × IsReported (scope_of scope.entry) (state_of state.old) line.now items (state_of state.new)) }
 {
     if is_before(line) {
         state.keep(line)?;
@@ -217,7 +221,11 @@ fn print_line(
         return Ok(());
     };
     let before = said_before(state.before.as_slice());
-    let is_judged = print_between(reported, state.number, scope, before, front, text)?;
+    let here = LogLine {
+        scope,
+        number: state.number,
+    };
+    let is_judged = print_between(reported, here, before, front, text)?;
     state.pass_check(is_judged);
     Ok(())
 }
@@ -225,193 +233,121 @@ fn print_line(
 // Appends what is told of a check that has its name between these, and answers whether it was judged.
 fn print_between(
     reported: &mut Vec<u8>,
-    number: u64,
-    scope: LogScope<'_>,
+    line: LogLine<'_>,
     before: Option<Before<'_>>,
     front: &[u8],
     text: &[u8],
 ) -> Result<bool, AllocError>
-    ensures { IfOk result (λ judged. (more : List ℕ) × (reported.new.items ≡ reported.old.items ++ more)
-        × SaysBehind number (scope_of scope.entry) (option_map before_texts_of before.entry) (head_in (front.now, text.now)) more judged) }
+    ensures { IfOk result (λ judged. (told : List ATold)
+        × (reported.new.items ≡ reported.old.items ++ text_of (scope_of line.entry.scope) (of_line line.entry.number told))
+        × SaysBehind (scope_of line.entry.scope) (option_map before_texts_of before.entry) (head_in (front.now, text.now)) told
+        × (judged ≡ list_all is_judgement told)) }
 {
     let Some(head) = read_head(front, text) else {
-        print_formless(reported, number)?;
-        return Ok(false);
+        return print_told(reported, line, Told::Formless);
     };
     let Some(check) = read_check(head.parts) else {
-        print_formless(reported, number)?;
-        return Ok(false);
+        return print_told(reported, line, Told::Formless);
     };
-    let given = given_for(scope.fs, head.fs, before, &check);
-    let only_denied = scope.only_denied;
-    match scope.release {
-        Some(release) => print_by_release(reported, number, only_denied, release, &given, &check),
-        None => print_check(reported, number, only_denied, &given, &check),
+    let given = given_for(line.scope.fs, head.fs, before, &check);
+    match line.scope.release {
+        Some(release) => print_by_release(reported, line, release, &given, &check),
+        None => print_check(reported, line, &given, &check),
     }
-}
-
-// A check of another form.
-fn print_formless(reported: &mut Vec<u8>, number: u64) -> Result<(), AllocError>
-    ensures { OnOk result (reported.new.items ≡ reported.old.items ++ formless_line number) }
-{
-    print(
-        reported,
-        format_args!("{number}: a check that is not as an MDS writes it\n"),
-    )
 }
 
 // Appends the answers to what a check asks, or why it can't be judged, and answers whether it was.
 fn print_check(
     reported: &mut Vec<u8>,
-    number: u64,
-    only_denied: bool,
+    line: LogLine<'_>,
     given: &Given<'_>,
     check: &Check<'_>,
 ) -> Result<bool, AllocError>
-    ensures { IfOk result (λ judged. (more : List ℕ) × (reported.new.items ≡ reported.old.items ++ more)
-        × Says number only_denied (given_texts_of given.now) (texts_of check.now) more judged) }
+    ensures { IfOk result (λ judged. (told : List ATold)
+        × (reported.new.items ≡ reported.old.items ++ text_of (scope_of line.entry.scope) (of_line line.entry.number told))
+        × Says (given_texts_of given.now) (texts_of check.now) told × (judged ≡ list_all is_judgement told)) }
 {
     let Some(mask) = read_mask(check) else {
-        print_unknown(reported, number, check.mask)?;
-        return Ok(false);
+        return print_told(reported, line, Told::Unknown(check.mask));
     };
     let alloc = *reported.allocator();
     let asked = accesses(alloc, mask)?;
     let mut values = no_values(alloc);
     fill(&mut values, given, check)?;
-    let has_path = given.has_path();
-    let manner = Manner {
-        number,
-        only_denied,
-        has_path,
-        grants: check.grants,
+    let question = match Question::read(alloc, &values) {
+        Ok(question) => question,
+        Err(fault) => return print_fault(reported, line, fault),
     };
-    match Question::read(alloc, &values) {
-        Ok(question) => {
-            let asked = asked.as_slice();
-            let is_judged = print_answers(reported, manner, question, asked)?;
-            Ok(is_judged)
-        }
-        Err(fault) => {
-            print_fault(reported, number, fault)?;
-            Ok(false)
-        }
-    }
-}
-
-/// A mask that asks for something else.
-pub(crate) fn print_unknown(
-    reported: &mut Vec<u8>,
-    number: u64,
-    mask: &[u8],
-) -> Result<(), AllocError>
-    ensures { OnOk result (reported.new.items ≡ reported.old.items ++ unknown_line number mask.now) }
-{
-    print(reported, format_args!("{number}: unknown mask "))?;
-    print_quoted(reported, mask)?;
-    Ok(reported.push(b'\n')?)
+    let accesses = asked.as_slice();
+    print_answers(
+        reported,
+        line,
+        given.has_path(),
+        check.grants,
+        question,
+        accesses,
+    )
 }
 
 // The answers to the question, by each of these accesses in the place of its own; and whether each is one, which it may not be where its path
 // is not known.
 fn print_answers(
     reported: &mut Vec<u8>,
-    manner: Manner<'_>,
+    line: LogLine<'_>,
+    has_path: bool,
+    grants: &[u8],
     mut question: Question,
     accesses: &[Access],
 ) -> Result<bool, AllocError>
     ensures printed { OnOk result (reported.new.items ≡ reported.old.items
-        ++ flat_map (told_line manner.entry.only_denied manner.entry.has_path manner.entry.number manner.entry.grants.now question) accesses.now) }
-    ensures judged { IfOk result (λ judged. judged ≡ list_all (is_answer manner.entry.has_path question) accesses.now) }
+        ++ text_of (scope_of line.entry.scope) (of_line line.entry.number (map (answer_to has_path grants.now question) accesses.now))) }
+    ensures judged { IfOk result (λ judged. judged ≡ list_all is_judgement (map (answer_to has_path grants.now question) accesses.now)) }
 {
     let mut is_judged = true;
     for access in accesses {
         question.access = *access;
-        let is_answer = print_said(reported, manner, &question)?;
-        is_judged &= is_answer;
+        let is_judgement = print_answer(reported, line, has_path, grants, &question)?;
+        is_judged &= is_judgement;
     }
     Ok(is_judged)
 }
 
-fn print_said(
-    reported: &mut Vec<u8>,
-    manner: Manner<'_>,
-    question: &Question,
-) -> Result<bool, AllocError>
-    ensures printed { OnOk result (reported.new.items ≡ reported.old.items
-        ++ told_line manner.entry.only_denied manner.entry.has_path manner.entry.number manner.entry.grants.now question.now question.now.access) }
-    ensures judged { IfOk result (λ judged. judged ≡ is_answer manner.entry.has_path question.now question.now.access) }
-{
-    if manner.has_path {
-        print_known(reported, manner, question)?;
-        return Ok(true);
-    }
-    print_pathless(reported, manner, question)
-}
-
-// What is answered where a path is known.
-fn print_known(
-    reported: &mut Vec<u8>,
-    manner: Manner<'_>,
-    question: &Question,
-) -> Result<(), AllocError>
-    ensures { OnOk result (reported.new.items ≡ reported.old.items
-        ++ told_line manner.entry.only_denied true manner.entry.number manner.entry.grants.now question.now question.now.access) }
-{
-    let is_allowed = question.is_allowed(*reported.allocator())?;
-    if manner.leaves_out(is_allowed) {
-        return Ok(());
-    }
-    print_answer(reported, manner.number, manner.grants, question)
-}
-
 fn print_answer(
     reported: &mut Vec<u8>,
-    number: u64,
+    line: LogLine<'_>,
+    has_path: bool,
     grants: &[u8],
-    question: &Question,
-) -> Result<(), AllocError>
-    ensures { OnOk result (reported.new.items ≡ reported.old.items ++ answer_lines number grants.now question.now question.now.access) }
-{
-    print(reported, format_args!("{number}: "))?;
-    let lines = question.remarked_answer(*reported.allocator(), grants)?;
-    reported.extend_from_slice(lines.as_slice())
-}
-
-// What is answered where none is, and whether that is the same at each path.
-fn print_pathless(
-    reported: &mut Vec<u8>,
-    manner: Manner<'_>,
     question: &Question,
 ) -> Result<bool, AllocError>
     ensures printed { OnOk result (reported.new.items ≡ reported.old.items
-        ++ told_line manner.entry.only_denied false manner.entry.number manner.entry.grants.now question.now question.now.access) }
-    ensures judged { IfOk result (λ judged. judged ≡ is_answer false question.now question.now.access) }
+        ++ text_of (scope_of line.entry.scope) (of_line line.entry.number (answer_to has_path grants.now question.now question.now.access ∷ []))) }
+    ensures judged { IfOk result (λ judged. judged ≡ is_judgement (answer_to has_path grants.now question.now question.now.access)) }
 {
+    if has_path {
+        return print_told(reported, line, Told::Answered(question, grants));
+    }
     let any = question.at_any_path(*reported.allocator())?;
-    print_any(reported, manner, MdsAccess::One(question.access), any)
+    let access = MdsAccess::One(question.access);
+    print_told(
+        reported,
+        line,
+        Told::Pathless(&question.caller, access, any),
+    )
 }
 
 /// Why the values of a check ask nothing.
 pub(crate) fn print_fault(
     reported: &mut Vec<u8>,
-    number: u64,
+    line: LogLine<'_>,
     fault: QuestionFault,
-) -> Result<(), AllocError>
-    ensures { OnOk result ((more : List ℕ) × (reported.new.items ≡ reported.old.items ++ more) × SaysFault number fault more) }
+) -> Result<bool, AllocError>
+    ensures { IfOk result (λ judged. (told : ATold)
+        × (reported.new.items ≡ reported.old.items ++ text_of (scope_of line.entry.scope) (of_line line.entry.number (told ∷ [])))
+        × TellsFault fault told × (judged ≡ is_judgement told)) }
 {
     match fault {
-        QuestionFault::Grants(refused) => {
-            let mut digits = Vec::new(*reported.allocator());
-            print_number(&mut digits, number)?;
-            print_unread(reported, digits.as_slice(), &refused)
-        }
-        QuestionFault::BadValue(option) => {
-            print(
-                reported,
-                format_args!("{number}: bad value of --{option}\n"),
-            )
-        }
+        QuestionFault::Grants(refused) => print_told(reported, line, Told::Refused(refused)),
+        QuestionFault::BadValue(option) => print_told(reported, line, Told::Bad(option)),
         QuestionFault::NoMemory => Err(AllocError),
     }
 }

@@ -9,7 +9,7 @@ use release_grants::{Grant, Grants, read_grants};
 use release_rules::{Asked, Question, Release, Verdict, client_refuses, mds_verdict};
 use std::alloc::{AllocError, Global};
 use std::fmt;
-use texts::{MdsAccess, mds_lines, mds_object};
+use texts::{MdsAccess, MdsSaid, mds_lines, mds_object};
 
 /// A text of grants that a release does not read.
 #[derive(Clone, Copy)]
@@ -166,20 +166,24 @@ impl MdsAsking {
         )
     }
 
-    /// The object that tells an answer, as a line of JSON. Only memory can be missing.
-    pub fn mds_object(&self, alloc: Global, answer: &MdsAnswer) -> Result<Vec<u8>, AllocError>
-        ensures { IfOk result (λ line. line.items ≡ object_by self.now answer.now) }
+    /// The object that tells an answer, with the number of a line, where it has one; as a line of JSON. Only memory can be missing.
+    pub fn mds_object(
+        &self,
+        alloc: Global,
+        number: Option<u64>,
+        answer: &MdsAnswer,
+    ) -> Result<Vec<u8>, AllocError>
+        ensures { IfOk result (λ line. line.items ≡ object_by number self.now answer.now) }
     {
         let names = self.asking.path.names(alloc)?;
         let asked = self.asking.asked(names.as_slice());
-        mds_object(
-            alloc,
-            answer.release,
-            self.access,
-            &asked,
-            &answer.verdict,
-            answer.refused,
-        )
+        let said = MdsSaid {
+            release: answer.release,
+            access: self.access,
+            verdict: &answer.verdict,
+            refused: answer.refused,
+        };
+        mds_object(alloc, number, &asked, &said)
     }
 }
 

@@ -27,10 +27,15 @@ impl Question {
         beside_lines(alloc, &asked, &verdict, left, &others)
     }
 
-    /// The object that answers the question and says all that `remarked_answer` says. It is a line of JSON, with its line feed. Only
+    /// The object that answers the question and says all that `remarked_answer` says, with the number of a line, where it has one. It is a line of JSON, with its line feed. Only
     /// memory can be missing.
-    pub fn remarked_object(&self, alloc: Global, text: &[u8]) -> Result<Vec<u8>, AllocError>
-        ensures { IfOk result (λ line. line.items ≡ remarked_object text.now self.now) }
+    pub fn remarked_object(
+        &self,
+        alloc: Global,
+        number: Option<u64>,
+        text: &[u8],
+    ) -> Result<Vec<u8>, AllocError>
+        ensures { IfOk result (λ line. line.items ≡ remarked_object number text.now self.now) }
     {
         let names = self.path.names(alloc)?;
         let names = names.as_slice();
@@ -38,7 +43,7 @@ impl Question {
         let asked = self.asked(names);
         let left = left_to_client(&asked, &self.grants);
         let others = self.others(alloc, text, &verdict)?;
-        answer_object(alloc, &asked, &verdict, left, &others)
+        answer_object(alloc, number, &asked, &verdict, left, &others)
     }
 
     // What each release answers otherwise than by this verdict.

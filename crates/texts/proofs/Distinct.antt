@@ -26,9 +26,9 @@ use Rattle.texts.proofs.Answered as lines
 use Rattle.texts.proofs.Answered.{one_access}
 use Rattle.texts.proofs.Compared.{one_mode}
 use Rattle.texts.proofs.Quoted.{clash}
-use Rattle.texts.specs.Values.{bytes_value, natural, numbers_value, or_null}
+use Rattle.texts.specs.Values.{bytes_value, natural, numbers_value, or_null, with_all}
 use Rattle.texts.specs.Answers.{AskOfTheSame, AskTheSame, IsAskable, answer_value, is_of_access, other_value, reason_if}
-use Rattle.texts.specs.Answers.{rule_value, verdict_word}
+use Rattle.texts.specs.Answers.{rule_value, verdict_table, verdict_word}
 use Rattle.texts.specs.Changes.{asked_by, change_value}
 use Rattle.texts.proofs.Spelling.{one_spelling}
 
@@ -111,11 +111,15 @@ one_row n (r ∷ rs) (q ∷ qs) same =
     let more : rs ≡ qs = one_row (n + 1) rs qs (ap tail_of same) in
     λ i. here i ∷ more i
 
-one_verdict : (q r : Question) (v w : Verdict) (left also : Option ℕ) (other further : Others) → answer_value q v left other ≡ answer_value r w also further → v ≡ w
-one_verdict q r (Allowed g) (Allowed h) left also other further same = ap Allowed (ap (λ (d : Data). number_in (value_at (codes "grant") d)) same)
-one_verdict q r (Allowed g) (Denied qs) left also other further same = clash 97 100 (omega arith) (ap (λ (d : Data). byte_in (value_at (codes "verdict") d)) same)
-one_verdict q r (Denied rs) (Allowed h) left also other further same = clash 97 100 (omega arith) (sym (ap (λ (d : Data). byte_in (value_at (codes "verdict") d)) same))
-one_verdict q r (Denied rs) (Denied qs) left also other further same = ap Denied (one_row 1 rs qs (ap (value_at (codes "rules")) same))
+-- what stands there at a key
+abbrev at_key : List ℕ → Verdict → Data
+at_key k v = value_in k (with_all (verdict_table v) no_members)
+
+one_verdict : (v w : Verdict) → at_key (codes "verdict") v ≡ at_key (codes "verdict") w → at_key (codes "grant") v ≡ at_key (codes "grant") w → at_key (codes "rules") v ≡ at_key (codes "rules") w → v ≡ w
+one_verdict (Allowed g) (Allowed h) word grant rules = ap Allowed (ap number_in grant)
+one_verdict (Allowed g) (Denied qs) word grant rules = clash 97 100 (omega arith) (ap byte_in word)
+one_verdict (Denied rs) (Allowed h) word grant rules = clash 97 100 (omega arith) (sym (ap byte_in word))
+one_verdict (Denied rs) (Denied qs) word grant rules = ap Denied (one_row 1 rs qs rules)
 
 -- ---- what is worth a word beside it
 
@@ -203,30 +207,75 @@ one_question q r d fit fits p s =
     let inode = one_inode q r d fit fits p.others s.others in
     (one_access q.access r.access fit.access fits.access (ap text_in (sym p.access ∙ s.access)), inode.0, inode.1, inode.2, inode.3)
 
--- and at those of what is worth a word beside its verdict
-record Shows (d : Data) (q : Question) (left : Option ℕ) (others : Others) : Type 0 where
+-- and at those of its line, its verdict, and what is worth a word beside that
+record Shows (d : Data) (line_number : Option ℕ) (q : Question) (v : Verdict) (left : Option ℕ) (others : Others) : Type 0 where
+  line : value_at (codes "line") d ≡ or_null natural line_number
   asks : Asks d q
+  verdict : value_at (codes "verdict") d ≡ at_key (codes "verdict") v
+  grant : value_at (codes "grant") d ≡ at_key (codes "grant") v
+  rules : value_at (codes "rules") d ≡ at_key (codes "rules") v
   client : value_at (codes "left_to_client") d ≡ or_null natural left
   pacific : value_at (codes "ceph16") d ≡ or_null other_value others.pacific
   reef : value_at (codes "ceph18") d ≡ or_null other_value others.reef
   tentacle : value_at (codes "ceph20") d ≡ or_null other_value others.tentacle
 
-shows : (q : Question) (v : Verdict) (left : Option ℕ) (others : Others) → Shows (answer_value q v left others) q left others
-shows q (Allowed g) left others =
-    record { asks = record { access = refl; others = record { path = refl; fs = refl; uid = refl; gid = refl; groups = refl; owner = refl; group = refl; mode = refl } }; client = refl; pacific = refl; reef = refl; tentacle = refl }
-shows q (Denied rs) left others =
-    record { asks = record { access = refl; others = record { path = refl; fs = refl; uid = refl; gid = refl; groups = refl; owner = refl; group = refl; mode = refl } }; client = refl; pacific = refl; reef = refl; tentacle = refl }
+shows : (line_number : Option ℕ) (q : Question) (v : Verdict) (left : Option ℕ) (others : Others) → Shows (answer_value line_number q v left others) line_number q v left others
+shows None q (Allowed g) left others = record {
+  line = refl;
+  asks = record { access = refl; others = record { path = refl; fs = refl; uid = refl; gid = refl; groups = refl; owner = refl; group = refl; mode = refl } };
+  verdict = refl;
+  grant = refl;
+  rules = refl;
+  client = refl;
+  pacific = refl;
+  reef = refl;
+  tentacle = refl;
+}
+shows None q (Denied rs) left others = record {
+  line = refl;
+  asks = record { access = refl; others = record { path = refl; fs = refl; uid = refl; gid = refl; groups = refl; owner = refl; group = refl; mode = refl } };
+  verdict = refl;
+  grant = refl;
+  rules = refl;
+  client = refl;
+  pacific = refl;
+  reef = refl;
+  tentacle = refl;
+}
+shows (Some n) q (Allowed g) left others = record {
+  line = refl;
+  asks = record { access = refl; others = record { path = refl; fs = refl; uid = refl; gid = refl; groups = refl; owner = refl; group = refl; mode = refl } };
+  verdict = refl;
+  grant = refl;
+  rules = refl;
+  client = refl;
+  pacific = refl;
+  reef = refl;
+  tentacle = refl;
+}
+shows (Some n) q (Denied rs) left others = record {
+  line = refl;
+  asks = record { access = refl; others = record { path = refl; fs = refl; uid = refl; gid = refl; groups = refl; owner = refl; group = refl; mode = refl } };
+  verdict = refl;
+  grant = refl;
+  rules = refl;
+  client = refl;
+  pacific = refl;
+  reef = refl;
+  tentacle = refl;
+}
 
-pub one_answer : (q r : Question) (v w : Verdict) (left also : Option ℕ) (others further : Others) → IsAskable q → IsAskable r → answer_value q v left others ≡ answer_value r w also further
-    → AskTheSame q r × (v ≡ w) × (left ≡ also) × (others ≡ further)
-one_answer q r v w left also others further fit fits same =
-    let p = shows q v left others in
-    let s : Shows (answer_value q v left others) r also further = subst (λ (d : Data). Shows d r also further) (sym same) (shows r w also further) in
+pub one_answer : (m n : Option ℕ) (q r : Question) (v w : Verdict) (left also : Option ℕ) (others further : Others) → IsAskable q → IsAskable r → answer_value m q v left others ≡ answer_value n r w also further
+    → (m ≡ n) × AskTheSame q r × (v ≡ w) × (left ≡ also) × (others ≡ further)
+one_answer m n q r v w left also others further fit fits same =
+    let p = shows m q v left others in
+    let s : Shows (answer_value m q v left others) n r w also further = subst (λ (d : Data). Shows d n r w also further) (sym same) (shows n r w also further) in
     let pacific : others.pacific ≡ further.pacific = one_other others.pacific further.pacific (sym p.pacific ∙ s.pacific) in
     let reef : others.reef ≡ further.reef = one_other others.reef further.reef (sym p.reef ∙ s.reef) in
     let tentacle : others.tentacle ≡ further.tentacle = one_other others.tentacle further.tentacle (sym p.tentacle ∙ s.tentacle) in (
-      one_question q r (answer_value q v left others) fit fits p.asks s.asks,
-      one_verdict q r v w left also others further same,
+      one_left m n (sym p.line ∙ s.line),
+      one_question q r (answer_value m q v left others) fit fits p.asks s.asks,
+      one_verdict v w (sym p.verdict ∙ s.verdict) (sym p.grant ∙ s.grant) (sym p.rules ∙ s.rules),
       one_left left also (sym p.client ∙ s.client),
       (λ i. record { pacific = pacific i; reef = reef i; tentacle = tentacle i }),
     )

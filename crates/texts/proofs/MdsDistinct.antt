@@ -1,5 +1,5 @@
 -- Answers of releases that differ are values that differ.
-use Rattle.std.proofs.Common.{◌≡◌, ℕ, ◌+◌, ◌==◌, List, [], ◌∷◌, map, Option, refl, sym, ap, subst, ◌∙◌, arith}
+use Rattle.std.proofs.Common.{◌≡◌, ℕ, ◌+◌, ◌==◌, List, [], ◌∷◌, map, Option, None, Some, refl, sym, ap, subst, ◌∙◌, arith}
 use Rattle.std.specs.Prelude.{bytes_eq, codes, if◌then◌else◌}
 use Rattle.std.specs.List.{enumerate_from}
 use Rattle.serde_json.specs.Data.{Data, array, item, null, string}
@@ -102,7 +102,8 @@ one_verdict (Denied rs) (Denied qs) word grant failures = ap Denied (one_row 1 r
 -- ---- all of it
 
 -- what stands at the keys
-record Shows (d : Data) (release : Release) (x : MdsAccess) (q : Question) (v : Verdict) (refused : Option ℕ) : Type 0 where
+record Shows (d : Data) (line_number : Option ℕ) (release : Release) (x : MdsAccess) (q : Question) (v : Verdict) (refused : Option ℕ) : Type 0 where
+  line : value_at (codes "line") d ≡ or_null natural line_number
   others : AsksOf d q
   access : value_at (codes "access") d ≡ string (mds_access_word x)
   mds : value_at (codes "mds") d ≡ string (version_of release)
@@ -111,8 +112,19 @@ record Shows (d : Data) (release : Release) (x : MdsAccess) (q : Question) (v : 
   failures : value_at (codes "rules") d ≡ failures_value v
   client : value_at (codes "refused_by_client") d ≡ or_null natural refused
 
-shows : (release : Release) (x : MdsAccess) (q : Question) (v : Verdict) (refused : Option ℕ) → Shows (mds_value release x q v refused) release x q v refused
-shows release x q v refused = record {
+shows : (line_number : Option ℕ) (release : Release) (x : MdsAccess) (q : Question) (v : Verdict) (refused : Option ℕ) → Shows (mds_value line_number release x q v refused) line_number release x q v refused
+shows None release x q v refused = record {
+  line = refl;
+  others = record { path = refl; fs = refl; uid = refl; gid = refl; groups = refl; owner = refl; group = refl; mode = refl };
+  access = refl;
+  mds = refl;
+  verdict = refl;
+  grant = refl;
+  failures = refl;
+  client = refl;
+}
+shows (Some n) release x q v refused = record {
+  line = refl;
   others = record { path = refl; fs = refl; uid = refl; gid = refl; groups = refl; owner = refl; group = refl; mode = refl };
   access = refl;
   mds = refl;
@@ -122,14 +134,15 @@ shows release x q v refused = record {
   client = refl;
 }
 
-pub one_mds_answer : (a b : Release) (x y : MdsAccess) (q r : Question) (v w : Verdict) (refused also : Option ℕ) → HasSmallNumbers x → HasSmallNumbers y → IsAskable q → IsAskable r → mds_value a x q v refused ≡ mds_value b y r w also
-    → (a ≡ b) × (x ≡ y) × AskOfTheSame q r × (v ≡ w) × (refused ≡ also)
-one_mds_answer a b x y q r v w refused also small too fit fits same =
-    let p = shows a x q v refused in
-    let s : Shows (mds_value a x q v refused) b y r w also = subst (λ (d : Data). Shows d b y r w also) (sym same) (shows b y r w also) in (
+pub one_mds_answer : (m n : Option ℕ) (a b : Release) (x y : MdsAccess) (q r : Question) (v w : Verdict) (refused also : Option ℕ) → HasSmallNumbers x → HasSmallNumbers y → IsAskable q → IsAskable r
+    → mds_value m a x q v refused ≡ mds_value n b y r w also → (m ≡ n) × (a ≡ b) × (x ≡ y) × AskOfTheSame q r × (v ≡ w) × (refused ≡ also)
+one_mds_answer m n a b x y q r v w refused also small too fit fits same =
+    let p = shows m a x q v refused in
+    let s : Shows (mds_value m a x q v refused) n b y r w also = subst (λ (d : Data). Shows d n b y r w also) (sym same) (shows n b y r w also) in (
+      one_left m n (sym p.line ∙ s.line),
       sym (has_version a) ∙ ap (λ (d : Data). asked_of (text_in d)) (sym p.mds ∙ s.mds) ∙ has_version b,
       one_word x y small too (ap text_in (sym p.access ∙ s.access)),
-      one_inode q r (mds_value a x q v refused) fit fits p.others s.others,
+      one_inode q r (mds_value m a x q v refused) fit fits p.others s.others,
       one_verdict v w (ap text_in (sym p.verdict ∙ s.verdict)) (sym p.grant ∙ s.grant) (sym p.failures ∙ s.failures),
       one_left refused also (sym p.client ∙ s.client),
     )

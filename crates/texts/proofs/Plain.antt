@@ -41,7 +41,7 @@ use Rattle.texts.specs.declared.table.Piece.{Piece}
 use Rattle.texts.specs.declared.table.Piece.TheVariants.{Access, Bytes, Caps, MdsRules, Null, Number, Numbers, Path, Rules, Word}
 use Rattle.texts.specs.Pieces.{piece_value, pieces_value}
 use Rattle.texts.proofs.Tables.{Row, member_of}
-use Rattle.texts.specs.Values.{IsPlain, Table, bytes_value, natural, numbers_value, object_of, or_null, with_all}
+use Rattle.texts.specs.Values.{IsPlain, Table, bytes_value, natural, numbered, numbers_value, object_of, or_null, with_all}
 use Rattle.texts.specs.Answers.{allowing_table, answer_value, attr_table, caller_table, is_of_access, other_value, others_table}
 use Rattle.texts.specs.Answers.{place_table, reason_if, reason_word, remarks_table, rule_value, rules_value, verdict_table}
 use Rattle.texts.specs.Answers.{verdict_word, with_question}
@@ -173,11 +173,16 @@ flat-others others =
 flat-remarks : (left : Option ℕ) (others : Others) → AllFlat 2 (remarks_table left others)
 flat-remarks left others = (flat-or_null 2 natural (flat-natural 2) left, flat-others others)
 
-pub plain-answer : (q : Question) (v : Verdict) (left : Option ℕ) (others : Others) → IsPlain (answer_value q v left others)
-plain-answer q v left others =
-    let asked = with_question q no_members in
+flat-numbered : (number : Option ℕ) → AreFlat 2 (numbered number)
+flat-numbered None = none 2
+flat-numbered (Some n) = flat-with_all 2 ((codes "line", natural n) ∷ []) no_members (flat-natural 2 n, tt) (none 2)
+
+pub plain-answer : (number : Option ℕ) (q : Question) (v : Verdict) (left : Option ℕ) (others : Others) → IsPlain (answer_value number q v left others)
+plain-answer number q v left others =
+    let asked = with_question q (numbered number) in
     let judged = with_all (verdict_table v) asked in
-    plain-object (with_all (remarks_table left others) judged) (flat-with_all 2 (remarks_table left others) judged (flat-remarks left others) (flat-with_all 2 (verdict_table v) asked (flat-verdict v) (flat-question q no_members (none 2))))
+    plain-object (with_all (remarks_table left others) judged)
+    (flat-with_all 2 (remarks_table left others) judged (flat-remarks left others) (flat-with_all 2 (verdict_table v) asked (flat-verdict v) (flat-question q (numbered number) (flat-numbered number))))
 
 -- ---- those of releases
 
@@ -208,10 +213,11 @@ flat-mds : (release : Release) (access : MdsAccess) (v : MdsVerdict) (refused : 
 flat-mds release access v refused =
     (flat-string 2 (mds_access_word access), (flat-string 2 (version_of release), (flat-string 2 (mds_word v), (flat-grant_value v, (flat-failures_value v, (flat-or_null 2 natural (flat-natural 2) refused, tt))))))
 
-pub plain-mds : (release : Release) (access : MdsAccess) (q : Question) (v : MdsVerdict) (refused : Option ℕ) → IsPlain (mds_value release access q v refused)
-plain-mds release access q v refused =
-    let asked = with_question q no_members in
-    plain-object (with_all (mds_table release access v refused) asked) (flat-with_all 2 (mds_table release access v refused) asked (flat-mds release access v refused) (flat-question q no_members (none 2)))
+pub plain-mds : (number : Option ℕ) (release : Release) (access : MdsAccess) (q : Question) (v : MdsVerdict) (refused : Option ℕ) → IsPlain (mds_value number release access q v refused)
+plain-mds number release access q v refused =
+    let asked = with_question q (numbered number) in
+    plain-object (with_all (mds_table release access v refused) asked)
+    (flat-with_all 2 (mds_table release access v refused) asked (flat-mds release access v refused) (flat-question q (numbered number) (flat-numbered number)))
 
 -- ---- those of pieces
 

@@ -2,7 +2,7 @@
 use Rattle.std.specs.Prelude.{◌≡◌, ◌<◌, ◌^◌, ℕ, Bool, true, false, not, Option, List, [], ◌∷◌, codes, map, if◌then◌else◌}
 use Rattle.std.specs.List.{enumerate_from}
 use Rattle.hex.specs.Hex.{IsBytes}
-use Rattle.serde_json.specs.Data.{Data, Members, array, no_members, null, object, string}
+use Rattle.serde_json.specs.Data.{Data, Members, array, null, object, string}
 use Rattle.serde_json.specs.View.{items_of}
 use Rattle.capbits.specs.declared.caller.Caller.{Caller}
 use Rattle.capgrant.specs.declared.access.Access.{Access}
@@ -20,7 +20,7 @@ use Rattle.release_rules.specs.declared.beside.Reason.TheVariants as reasons
 use Rattle.texts.specs.Explaining.{path_text}
 use Rattle.texts.specs.Lines.{HasNumber}
 use Rattle.texts.specs.PartTexts.{mode_text}
-use Rattle.texts.specs.Values.{Table, bytes_value, json_line, natural, numbers_value, object_of, or_null, with_all}
+use Rattle.texts.specs.Values.{Table, bytes_value, json_line, natural, numbered, numbers_value, object_of, or_null, with_all}
 
 -- ---- what is asked
 
@@ -102,12 +102,12 @@ abbrev pub remarks_table : Option ℕ → Others → Table
 remarks_table left others = (codes "left_to_client", or_null natural left) ∷ others_table others
 
 -- all of it
-abbrev pub answer_value : Question → Verdict → Option ℕ → Others → Data
-answer_value q verdict left others = object (with_all (remarks_table left others) (with_all (verdict_table verdict) (with_question q no_members)))
+abbrev pub answer_value : Option ℕ → Question → Verdict → Option ℕ → Others → Data
+answer_value number q verdict left others = object (with_all (remarks_table left others) (with_all (verdict_table verdict) (with_question q (numbered number))))
 
 -- as a line
-abbrev pub answer_object : Question → Verdict → Option ℕ → Others → List ℕ
-answer_object q verdict left others = json_line (answer_value q verdict left others)
+abbrev pub answer_object : Option ℕ → Question → Verdict → Option ℕ → Others → List ℕ
+answer_object number q verdict left others = json_line (answer_value number q verdict left others)
 
 -- ---- one answer for an object
 
@@ -128,5 +128,5 @@ AskTheSame q r = (q.access ≡ r.access) × (path_text q.path ≡ path_text r.pa
 
 -- answers that are the same object are the same answer to the same question
 abbrev pub OneAnswer : Type 0
-OneAnswer = (q r : Question) (v w : Verdict) (left also : Option ℕ) (others further : Others) → IsAskable q → IsAskable r
-    → answer_value q v left others ≡ answer_value r w also further → AskTheSame q r × (v ≡ w) × (left ≡ also) × (others ≡ further)
+OneAnswer = (m n : Option ℕ) (q r : Question) (v w : Verdict) (left also : Option ℕ) (others further : Others) → IsAskable q → IsAskable r
+    → answer_value m q v left others ≡ answer_value n r w also further → (m ≡ n) × AskTheSame q r × (v ≡ w) × (left ≡ also) × (others ≡ further)

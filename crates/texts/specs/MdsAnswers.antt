@@ -1,7 +1,7 @@
 -- The object that says what the MDS of a release answers.
 use Rattle.std.specs.Prelude.{◌≡◌, ℕ, Option, Some, None, List, [], ◌∷◌, codes, map}
 use Rattle.std.specs.List.{enumerate_from}
-use Rattle.serde_json.specs.Data.{Data, array, no_members, null, object, string}
+use Rattle.serde_json.specs.Data.{Data, array, null, object, string}
 use Rattle.serde_json.specs.View.{items_of}
 use Rattle.capgrant.specs.Question.{Question}
 use Rattle.release_rules.specs.declared.release.Release.{Release}
@@ -14,7 +14,7 @@ use Rattle.texts.specs.declared.mds_asked.MdsAccess.{MdsAccess}
 use Rattle.texts.specs.Answers.{AskOfTheSame, IsAskable, failure_value, with_question}
 use Rattle.texts.specs.MdsAsked.{mds_access_word}
 use Rattle.texts.specs.MdsTold.{HasSmallNumbers}
-use Rattle.texts.specs.Values.{Table, json_line, natural, object_of, or_null, with_all}
+use Rattle.texts.specs.Values.{Table, json_line, natural, numbered, object_of, or_null, with_all}
 
 -- by which rule the grant of this number fails
 abbrev pub mds_rule_value : ℕ × Rule → Data
@@ -49,14 +49,14 @@ mds_table release access verdict refused =
     ∷ (codes "refused_by_client", or_null natural refused) ∷ []
 
 -- all of it, of a question whose access is this
-abbrev pub mds_value : Release → MdsAccess → Question → Verdict → Option ℕ → Data
-mds_value release access q verdict refused = object (with_all (mds_table release access verdict refused) (with_question q no_members))
+abbrev pub mds_value : Option ℕ → Release → MdsAccess → Question → Verdict → Option ℕ → Data
+mds_value number release access q verdict refused = object (with_all (mds_table release access verdict refused) (with_question q (numbered number)))
 
 -- as a line
-abbrev pub mds_object : Release → MdsAccess → Question → Verdict → Option ℕ → List ℕ
-mds_object release access q verdict refused = json_line (mds_value release access q verdict refused)
+abbrev pub mds_object : Option ℕ → Release → MdsAccess → Question → Verdict → Option ℕ → List ℕ
+mds_object number release access q verdict refused = json_line (mds_value number release access q verdict refused)
 
 -- answers that are the same object are the same answer of the same release to the same question
 abbrev pub OneMdsAnswer : Type 0
-OneMdsAnswer = (a b : Release) (x y : MdsAccess) (q r : Question) (v w : Verdict) (refused also : Option ℕ) → HasSmallNumbers x → HasSmallNumbers y → IsAskable q → IsAskable r
-    → mds_value a x q v refused ≡ mds_value b y r w also → (a ≡ b) × (x ≡ y) × AskOfTheSame q r × (v ≡ w) × (refused ≡ also)
+OneMdsAnswer = (m n : Option ℕ) (a b : Release) (x y : MdsAccess) (q r : Question) (v w : Verdict) (refused also : Option ℕ) → HasSmallNumbers x → HasSmallNumbers y → IsAskable q → IsAskable r
+    → mds_value m a x q v refused ≡ mds_value n b y r w also → (m ≡ n) × (a ≡ b) × (x ≡ y) × AskOfTheSame q r × (v ≡ w) × (refused ≡ also)

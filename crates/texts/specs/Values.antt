@@ -34,6 +34,11 @@ abbrev pub or_null : {A : Type 0} → (A → Data) → Option A → Data
 or_null value None = null
 or_null value (Some a) = value a
 
+-- no members, or the number of a line
+abbrev pub numbered : Option ℕ → Members
+numbered None = no_members
+numbered (Some n) = with_all ((codes "line", natural n) ∷ []) no_members
+
 -- ---- lines
 
 -- the text of the value, and a line feed

@@ -7,27 +7,27 @@ ghost use Rattle.texts.specs.Values.{ReadsBack, natural, or_null, with_all};
 
 use crate::mds_answer::put_others;
 use crate::question_object::put_question;
-use crate::table::{Members, Piece, print_object, put_all};
+use crate::table::{Members, Piece, numbered, print_object, put_all};
 use crate::verdict_object::put_verdict;
 use capgrant::{Question, Verdict};
 use release_rules::Others;
-use serde_json::Map;
 use std::alloc::{AllocError, Global};
 
 /// The object that says what is asked, what the verdict is and by which grant or rules, which grant leaves the inode's owner, group and
-/// mode to the client, and what the MDS of each release answers where it answers otherwise. It is a line, with its line feed. Only memory
-/// can be missing.
+/// mode to the client, and what the MDS of each release answers where it answers otherwise; of a line of a log its number too. It is a line, with
+/// its line feed. Only memory can be missing.
 pub fn answer_object(
     alloc: Global,
+    number: Option<u64>,
     question: &Question<'_>,
     verdict: &Verdict,
     left: Option<u32>,
     others: &Others,
 ) -> Result<Vec<u8>, AllocError>
-    ensures line { IfOk result (λ line. line.items ≡ answer_object question.now verdict.now left others.now) }
-    ensures reads { OnOk result (ReadsBack (answer_value question.now verdict.now left others.now)) }
+    ensures line { IfOk result (λ line. line.items ≡ answer_object number question.now verdict.now left others.now) }
+    ensures reads { OnOk result (ReadsBack (answer_value number question.now verdict.now left others.now)) }
 {
-    let mut members = Map::new(alloc);
+    let mut members = numbered(alloc, number)?;
     put_question(&mut members, alloc, question)?;
     put_verdict(&mut members, alloc, verdict)?;
     put_remarks(&mut members, alloc, left, others)?;

@@ -49,7 +49,7 @@ pub use line_text::{Text, print_texts};
 pub use lines::split_line;
 pub use lint_object::{print_finding_object, print_odd_object, print_refusal_object};
 pub use lint_text::{print_finding, print_odd, print_refusal};
-pub use mds_answer::mds_object;
+pub use mds_answer::{MdsSaid, mds_object};
 pub use mds_asked::MdsAccess;
 pub use mds_change::{Networks, mds_changes};
 pub use mds_text::{mds_lines, print_mds_failures};

@@ -10,52 +10,57 @@ ghost use Rattle.texts.specs.Values.{ReadsBack, natural, or_null, with_all};
 use crate::explain_object::verdict_word;
 use crate::mds_asked::MdsAccess;
 use crate::question_object::put_question;
-use crate::table::{Members, Piece, print_object, put_all};
+use crate::table::{Members, Piece, numbered, print_object, put_all};
 use capgrant::Question;
 use release_rules::{Others, Otherwise, Reason, Release, Verdict};
 use serde_json::{Map, Value, put};
 use std::alloc::{AllocError, Global};
+
+/// What the MDS of a release says to a question.
+#[derive(Clone, Copy)]
+pub struct MdsSaid<'a> {
+    /// The release.
+    pub release: Release,
+    /// What is asked for, in the place of the access of the question.
+    pub access: MdsAccess,
+    /// What its MDS says.
+    pub verdict: &'a Verdict,
+    /// The number of the grant by which the client itself refuses, where it does.
+    pub refused: Option<usize>,
+}
 
 /// The object that says what is asked, of which release, what its MDS says and by which grant or rules, and by which grant the client itself
 /// refuses to change attributes. What is asked for is told in the place of the access of the question. It is a line, with its line feed. Only
 /// memory can be missing.
 pub fn mds_object(
     alloc: Global,
-    release: Release,
-    access: MdsAccess,
+    number: Option<u64>,
     question: &Question<'_>,
-    verdict: &Verdict,
-    refused: Option<usize>,
+    said: &MdsSaid<'_>,
 ) -> Result<Vec<u8>, AllocError>
-    ensures line { IfOk result (λ line. line.items ≡ mds_object release access question.now verdict.now refused) }
-    ensures reads { OnOk result (ReadsBack (mds_value release access question.now verdict.now refused)) }
+    ensures line { IfOk result (λ line. line.items ≡ mds_object number said.now.release said.now.access question.now said.now.verdict.now said.now.refused) }
+    ensures reads { OnOk result (ReadsBack (mds_value number said.now.release said.now.access question.now said.now.verdict.now said.now.refused)) }
 {
-    let mut members = Map::new(alloc);
+    let mut members = numbered(alloc, number)?;
     put_question(&mut members, alloc, question)?;
-    put_mds(&mut members, alloc, release, access, verdict, refused)?;
+    put_mds(&mut members, alloc, said)?;
     let mut line = Vec::new(alloc);
     print_object(&mut line, members)?;
     Ok(line)
 }
 
 // Adds what is asked for, which MDS it is, and what is said.
-fn put_mds(
-    members: &mut Members,
-    alloc: Global,
-    release: Release,
-    access: MdsAccess,
-    verdict: &Verdict,
-    refused: Option<usize>,
-) -> Result<(), AllocError>
-    ensures { OnOk result (members_view members.new.entries ≡ with_all (mds_table release access verdict.now refused) (members_view members.old.entries)) }
+fn put_mds(members: &mut Members, alloc: Global, said: &MdsSaid<'_>) -> Result<(), AllocError>
+    ensures { OnOk result (members_view members.new.entries
+        ≡ with_all (mds_table said.now.release said.now.access said.now.verdict.now said.now.refused) (members_view members.old.entries)) }
 {
     let table = [
-        ("access", Piece::Access(access)),
-        ("mds", Piece::Word(release.version())),
-        ("verdict", Piece::Word(mds_word(verdict))),
-        ("grant", grant_piece(verdict)),
-        ("rules", failures_piece(verdict)),
-        ("refused_by_client", count_if(refused)),
+        ("access", Piece::Access(said.access)),
+        ("mds", Piece::Word(said.release.version())),
+        ("verdict", Piece::Word(mds_word(said.verdict))),
+        ("grant", grant_piece(said.verdict)),
+        ("rules", failures_piece(said.verdict)),
+        ("refused_by_client", count_if(said.refused)),
     ];
     put_all(members, alloc, &table)
 }

@@ -8,7 +8,7 @@ ghost use Rattle.serde_json.specs.View.{members_view, view};
 ghost use Rattle.texts.specs.Answers.{failure_value, rules_value};
 ghost use Rattle.texts.specs.MdsAnswers.{mds_rules_value};
 ghost use Rattle.texts.specs.Pieces.{piece_value, pieces_value};
-ghost use Rattle.texts.specs.Values.{IsPlain, ReadsBack, bytes_value, json_line, numbers_value, object_of, with_all};
+ghost use Rattle.texts.specs.Values.{IsPlain, ReadsBack, bytes_value, json_line, numbered, numbers_value, object_of, with_all};
 
 use crate::explain_text::print_path;
 use crate::mds_asked::MdsAccess;
@@ -43,6 +43,18 @@ pub enum Piece<'a> {
     Rules(&'a [Rule]),
     /// The rule of an MDS by which each does.
     MdsRules(&'a [release_rules::Rule]),
+}
+
+/// No members, or the number of a line.
+pub(crate) fn numbered(alloc: Global, number: Option<u64>) -> Result<Members, AllocError>
+    ensures { IfOk result (λ members. members_view members.entries ≡ numbered number) }
+{
+    let mut members = Map::new(alloc);
+    let Some(number) = number else {
+        return Ok(members);
+    };
+    put_all(&mut members, alloc, &[("line", Piece::Number(number))])?;
+    Ok(members)
 }
 
 /// Adds these members.

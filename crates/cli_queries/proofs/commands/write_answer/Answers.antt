@@ -1,4 +1,4 @@
-use Rattle.std.proofs.Common.{List, ℕ, ap, ◌∙◌}
+use Rattle.std.proofs.Common.{List, None, ℕ, ap, ◌∙◌}
 use Rattle.queries.specs.Remarks.{remarked_answer, remarked_object}
 use Rattle.texts.specs.Watched.{has_failed, inner_of}
 use Rattle.cli_queries.proofs.Unwritten.{line_unwritten, missed_unwritten, refused_question, text_unwritten, told_all, told_object}
@@ -46,4 +46,4 @@ pub returns-in-Object-clause-answer : goal.returns-in-Object-clause-answer
 returns-in-Object-clause-answer g c =
     let q = c.in_ok-question.question in
     told_object _ c.args.form c.args.values.now q (g.W.Write.contents (inner_of c.args.writer.now)) (g.W.Write.contents (inner_of c.write_text-in-Object.new.writer)) c.as_slice-in-Object-2.result.now c.write_text-in-Object.result c.in-Object.is c.in_ok-question.ensures.ok
-    (c.as_slice-in-Object-2.ensures.value ∙ c.in_ok-object-in-Object.ensures ∙ ap (λ (text : List ℕ). remarked_object text q) c.as_slice-in-Object.ensures.value) c.write_text-in-Object.ensures.status c.write_text-in-Object.ensures.ok
+    (c.as_slice-in-Object-2.ensures.value ∙ c.in_ok-object-in-Object.ensures ∙ ap (λ (text : List ℕ). remarked_object None text q) c.as_slice-in-Object.ensures.value) c.write_text-in-Object.ensures.status c.write_text-in-Object.ensures.ok

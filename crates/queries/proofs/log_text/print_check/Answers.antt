@@ -1,56 +1,45 @@
-use Rattle.std.proofs.Common.{Bool, ℕ, List, inl, inr, ap, refl, ◌∙◌}
-use Rattle.std.specs.List.{flat_map, list_all}
+use Rattle.std.proofs.Common.{Bool, List, inl, inr, map, ap, refl, ◌∙◌}
+use Rattle.std.specs.Prelude.{is_some}
 use Rattle.capgrant.specs.declared.access.Access.{Access}
 use Rattle.queries.specs.Before.{given_texts_of}
-use Rattle.queries.specs.Reported.{is_answer, told_line, unknown_line}
-use Rattle.std.specs.Prelude.{is_some}
+use Rattle.queries.specs.Checks.{texts_of}
+use Rattle.queries.specs.Reported.{Says, answer_to, scope_of}
+use Rattle.queries.specs.Told.Told.{unknown}
+use Rattle.queries.proofs.LogTold.{all_told, of_fault, one_told}
 use Rattle.queries.proofs.log_text.print_check.Goals as goal
 
 pub returns-in_default : goal.returns-in_default
-returns-in_default c = (unknown_line c.args.number c.args.check.now.mask.now, c.in_ok-print_unknown.ensures, inl (c.in_default.ensures, refl, refl))
+returns-in_default c =
+    one_told (scope_of c.args.line.scope) c.args.line.number c.args.reported.now.items c.print_told.new.reported.items (unknown c.args.check.now.mask.now)
+    (Says (given_texts_of c.args.given.now) (texts_of c.args.check.now)) c.print_told.result (inl (c.in_default.ensures, refl)) c.print_told.ensures.printed c.print_told.ensures.judged
 
-pub returns-in-Ok : goal.returns-in-Ok
-returns-in-Ok c =
-    let question = c.in-Ok.question in
-    let grants : List ℕ = c.args.check.now.grants.now in
-    let has_path : Bool = is_some (given_texts_of c.args.given.now).path in
-    let asked = c.as_slice-asked.ensures.value ∙ c.in_ok-asked.ensures in (
-      flat_map (told_line c.args.only_denied c.has_path-has_path.result c.args.number grants question) c.as_slice-asked.result.now,
-      c.in_ok-is_judged-in-Ok.ensures.printed,
-      inr (
-        c.fill.new.values,
-        c.in_ok-fill.ensures,
-        inl (record {
-          mask = c.in-Some.mask;
-          question = question;
-          is_mask = c.in-Some.ensures;
-          asks = c.in-Ok.ensures.ok;
-          more_is =
-              ap (λ (has : Bool). flat_map (told_line c.args.only_denied has c.args.number grants question) c.as_slice-asked.result.now) c.has_path-has_path.ensures
-              ∙ ap (λ (accesses : List Access). flat_map (told_line c.args.only_denied has_path c.args.number grants question) accesses) asked;
-          judged_is =
-              c.in_ok-is_judged-in-Ok.ensures.judged
-              ∙ ap (λ (has : Bool). list_all (is_answer has question) c.as_slice-asked.result.now) c.has_path-has_path.ensures
-              ∙ ap (λ (accesses : List Access). list_all (is_answer has_path question) accesses) asked;
-        }),
-      ),
-    )
+pub returns-in-Err : goal.returns-in-Err
+returns-in-Err c =
+    of_fault (scope_of c.args.line.scope) c.args.line.number c.args.reported.now.items c.print_fault.new.reported.items c.in-Err.fault
+    (Says (given_texts_of c.args.given.now) (texts_of c.args.check.now)) c.print_fault.result
+    (λ t tells. inr (
+      c.fill.new.values,
+      c.in_ok-fill.ensures,
+      inr (record { fault = c.in-Err.fault; first = c.in-Err.ensures.err; one = t; tells = tells; told_is = refl }),
+    )) c.print_fault.ensures
 
 pub returns : goal.returns
 returns c =
-    let reported = c.in_ok-print_fault-in-Err.ensures in (
-      reported.0,
-      reported.1,
-      inr (
-        c.fill.new.values,
-        c.in_ok-fill.ensures,
-        inr (
-          record {
-            fault = c.in-Err.fault;
-            first = c.in-Err.ensures.err;
-            says = reported.2;
-          },
-          refl,
-        ),
-      ),
-    )
+    let question = c.in-Ok.question in
+    let grants : List _ = c.args.check.now.grants.now in
+    let asked = c.as_slice-accesses.ensures.value ∙ c.in_ok-asked.ensures in
+    all_told (scope_of c.args.line.scope) c.args.line.number c.args.reported.now.items c.print_answers.new.reported.items (map (answer_to c.has_path.result grants question) c.as_slice-accesses.result.now)
+    (Says (given_texts_of c.args.given.now) (texts_of c.args.check.now)) c.print_answers.result
+    (inr (
+      c.fill.new.values,
+      c.in_ok-fill.ensures,
+      inl (record {
+        mask = c.in-Some.mask;
+        question = question;
+        is_mask = c.in-Some.ensures;
+        asks = c.in-Ok.ensures.ok;
+        told_is =
+            ap (λ (has : Bool). map (answer_to has grants question) c.as_slice-accesses.result.now) c.has_path.ensures
+            ∙ ap (λ (accesses : List Access). map (answer_to (is_some (given_texts_of c.args.given.now).path) grants question) accesses) asked;
+      }),
+    )) c.print_answers.ensures.printed c.print_answers.ensures.judged

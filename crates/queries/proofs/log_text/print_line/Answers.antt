@@ -1,7 +1,7 @@
-use Rattle.std.proofs.Common.{[], Option, sym, subst, ap, append-nil, ◌∙◌}
+use Rattle.std.proofs.Common.{Bool, Option, [], ap, sym, subst, append-nil, ◌∙◌}
 use Rattle.queries.specs.Before.{BeforeTexts, said_before}
 use Rattle.queries.specs.Checks.{head_in}
-use Rattle.queries.specs.Reported.{IsReported, SaysBehind, State, scope_of, state_of}
+use Rattle.queries.specs.Reported.{IsReported, SaysBehind, State, behind_check, of_line, scope_of, state_of}
 use Rattle.queries.specs.Reported.IsReported.{checked, kept, passed_over}
 use Rattle.queries.proofs.log_text.print_line.Goals as goal
 
@@ -22,11 +22,11 @@ returns-in_default c = (
 pub returns : goal.returns
 returns c =
     let says = c.in_ok-is_judged.ensures in
-    let judged = c.in_ok-is_judged.is_judged in
-    let old = state_of c.args.state.now in (
-      says.0,
+    let old = state_of c.args.state.now in
+    let items = of_line c.args.state.now.number says.0 in (
+      items,
       says.1,
-      subst (λ (next : State). IsReported (scope_of c.args.scope) old c.args.line.now says.0 next) (sym c.pass_check.ensures)
-          (checked (c.in-Some.front.now, c.in-Some.text.now) says.0 judged (sym c.is_before.ensures ∙ c.if-is_before.false) c.in-Some.ensures
-          (subst (λ (b : Option BeforeTexts). SaysBehind c.args.state.now.number (scope_of c.args.scope) b (head_in (c.in-Some.front.now, c.in-Some.text.now)) says.0 judged) (c.said_before-before.ensures ∙ ap said_before c.as_slice.ensures.value) says.2)),
+      subst (λ (next : State). IsReported (scope_of c.args.scope) old c.args.line.now items next) (sym (c.pass_check.ensures ∙ ap (λ (judged : Bool). behind_check old judged) says.3))
+          (checked (c.in-Some.front.now, c.in-Some.text.now) says.0 (sym c.is_before.ensures ∙ c.if-is_before.false) c.in-Some.ensures
+          (subst (λ (b : Option BeforeTexts). SaysBehind (scope_of c.args.scope) b (head_in (c.in-Some.front.now, c.in-Some.text.now)) says.0) (c.said_before-before.ensures ∙ ap said_before c.as_slice.ensures.value) says.2)),
     )

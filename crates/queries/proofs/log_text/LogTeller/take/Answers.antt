@@ -16,6 +16,6 @@ returns c =
     let next = state_of c.print_lines.new.state in (
       says.0,
       says.1,
-      subst (λ (t : List ℕ). TellsLines (scope_of c.args.scope) old t says.0 c.in_ok-unfinished.unfinished.items next) text
-          (subst (λ (rest : List ℕ). TellsLines (scope_of c.args.scope) old c.as_slice.result.now says.0 rest next) (sym c.in_ok-unfinished.ensures.items) says.2),
+      subst (λ (t : List ℕ). TellsLines (scope_of c.args.scope) old t c.in_ok-unfinished.unfinished.items says.0 next) text
+          (subst (λ (rest : List ℕ). TellsLines (scope_of c.args.scope) old c.as_slice.result.now rest says.0 next) (sym c.in_ok-unfinished.ensures.items) says.2),
     )

@@ -2,7 +2,7 @@ use Rattle.std.proofs.Common.{◌≡◌, ℕ, List, ◌++◌, ap, ◌∙◌, app
 use Rattle.std.specs.Prelude.{codes}
 use Rattle.std.specs.Fmt.{decimal}
 use Rattle.texts.specs.Quoting.{quoted}
-use Rattle.queries.proofs.log_text.print_unknown.Goals as goal
+use Rattle.queries.proofs.told.print_unknown.Goals as goal
 
 in_a_row : (start a b c d : List ℕ) → ((start ++ (a ++ b)) ++ c) ++ d ≡ start ++ (a ++ (b ++ (c ++ d)))
 in_a_row start a b c d = simp append_assoc
