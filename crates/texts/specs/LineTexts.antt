@@ -3,10 +3,10 @@ use Rattle.std.specs.Prelude.{List, [], ◌∷◌, ◌++◌, map, ℕ}
 use Rattle.std.specs.Fmt.{decimal}
 use Rattle.capbits.specs.Text.{text_of}
 use Rattle.texts.specs.declared.line_text.Text.{Text}
-use Rattle.texts.specs.declared.line_text.Text.TheVariants.{Access, Bytes, Caps, Groups, Hex, Mode, Number, Path, Quoted, Word}
+use Rattle.texts.specs.declared.line_text.Text.TheVariants.{Access, Bytes, Caps, Groups, Mode, Number, Path, Quoted, Word}
 use Rattle.texts.specs.Explaining.{path_text}
 use Rattle.texts.specs.MdsAsked.{mds_access_word}
-use Rattle.texts.specs.PartTexts.{groups_text, hex_text, mode_text}
+use Rattle.texts.specs.PartTexts.{groups_text, mode_text}
 use Rattle.texts.specs.Quoting.{quoted}
 
 abbrev pub text_value : Text → List ℕ
@@ -14,7 +14,6 @@ text_value (Word word) = word.now
 text_value (Number n) = decimal n
 text_value (Bytes bytes) = bytes.now
 text_value (Quoted bytes) = quoted bytes.now
-text_value (Hex bytes) = hex_text bytes.now
 text_value (Path path) = quoted (path_text (map (λ name. name.now) path.now))
 text_value (Access access) = mds_access_word access
 text_value (Caps caps) = text_of caps

@@ -3,7 +3,7 @@ ghost use Rattle.std.specs.Prelude.{◌≡◌, ◌++◌, OnOk};
 ghost use Rattle.texts.specs.LineTexts.{all_texts, text_value};
 
 use crate::mds_asked::MdsAccess;
-use crate::part_text::{print_bytes, print_groups, print_mode};
+use crate::part_text::{print_groups, print_mode};
 use crate::quoting::{print_quoted, print_quoted_path};
 use capbits::{CapSet, Groups, Mode, print, print_caps, print_number, print_str};
 use std::alloc::AllocError;
@@ -19,8 +19,6 @@ pub enum Text<'a> {
     Bytes(&'a [u8]),
     /// Bytes, in quotes where they have to be.
     Quoted(&'a [u8]),
-    /// Bytes, by two hexadecimal digits each.
-    Hex(&'a [u8]),
     /// Names from the root down, as a path, in quotes where it has to be.
     Path(&'a [&'a [u8]]),
     /// An access, or what an MDS is asked for, by its word.
@@ -51,7 +49,6 @@ fn print_text(text: &mut Vec<u8>, piece: &Text<'_>) -> Result<(), AllocError>
         Text::Number(number) => print_number(text, *number),
         Text::Bytes(bytes) => text.extend_from_slice(bytes),
         Text::Quoted(bytes) => print_quoted(text, bytes),
-        Text::Hex(bytes) => print_bytes(text, bytes),
         Text::Path(path) => print_quoted_path(text, path),
         Text::Access(access) => print(text, *access),
         Text::Caps(caps) => print_caps(text, *caps),
