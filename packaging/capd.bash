@@ -10,7 +10,7 @@ _capd() {
     elif [[ ${COMP_WORDS[1]} == compare ]]; then
         mapfile -t COMPREPLY < <(compgen -W '--json --mds --addr --help' -- "$word")
     elif [[ ${COMP_WORDS[1]} == log ]]; then
-        mapfile -t COMPREPLY < <(compgen -W '--fs --denied --mds --json --help' -- "$word")
+        mapfile -t COMPREPLY < <(compgen -W '--fs --denied --count --mds --json --help' -- "$word")
     elif [[ ${COMP_WORDS[1]} == lint ]]; then
         mapfile -t COMPREPLY < <(compgen -W '--json --mds --help' -- "$word")
     elif [[ ${COMP_WORDS[1]} == grants ]]; then

@@ -31,7 +31,7 @@ Answers (invocations.Compare before after shape mds addr) input status old new =
 Answers (invocations.Lint text shape mds) input status old new = AnswersLint mds shape text.items status old new
 Answers (invocations.Who who_args) input status old new = AnswersWhoArgs who_args input status old new
 Answers (invocations.Audit audit_args) input status old new = AnswersAuditArgs audit_args input status old new
-Answers (invocations.Log fs only_denied mds shape) input status old new = AnswersLog (scope fs.items only_denied mds shape) input status old new
+Answers (invocations.Log fs only_denied mds shape counts) input status old new = AnswersLog (scope fs.items only_denied mds shape counts) input status old new
 Answers (invocations.Run more) input status old new = (status ≡ 0) × IfSome input (λ script. (length script ≤ longest_script) × ((text : List ℕ) × IsTranscript (lines script) text × Appends old new text))
 Answers (invocations.Serve more) input status old new = (status ≡ 0) × IfSome input (λ script. (length script ≤ longest_script) × ((text : List ℕ) × IsServed (lines script) text × Appends old new text))
 
@@ -67,7 +67,7 @@ Stops (invocations.Compare before after shape mds addr) fault input ended unread
 Stops (invocations.Lint text shape mds) fault input ended unread unwritten old new = TellsOfAnswer (λ reported. StopsLint mds text.items reported unwritten old new) fault
 Stops (invocations.Who who_args) fault input ended unread unwritten old new = TellsOfAnswer (λ reported. StopsWhoArgs who_args reported input unread unwritten old new) fault
 Stops (invocations.Audit audit_args) fault input ended unread unwritten old new = TellsOfAnswer (λ reported. StopsAuditArgs audit_args reported input unread unwritten old new) fault
-Stops (invocations.Log fs only_denied mds shape) fault input ended unread unwritten old new = TellsOfAnswer (λ reported. StopsLog (scope fs.items only_denied mds shape) reported input unread unwritten old new) fault
+Stops (invocations.Log fs only_denied mds shape counts) fault input ended unread unwritten old new = TellsOfAnswer (λ reported. StopsLog (scope fs.items only_denied mds shape counts) reported input unread unwritten old new) fault
 Stops (invocations.Run more) fault input ended unread unwritten old new = (stop : ScriptFault) × (fault ≡ Script stop) × RunStops stop input ended unread unwritten old new
 Stops (invocations.Serve more) fault input ended unread unwritten old new = (stop : ServeFault) × (fault ≡ Serve stop) × ServeStops stop input unread unwritten old new
 

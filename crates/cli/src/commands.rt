@@ -141,12 +141,14 @@ fn answer<T: Threads + Wait + Sync, R: Read, W: Write>(
             only_denied,
             mds,
             shape,
+            counts,
         } => {
             let scope = LogScope {
                 fs: fs.as_slice(),
                 only_denied: *only_denied,
                 release: *mds,
                 shape: *shape,
+                counts: *counts,
             };
             log(alloc, scope, reader, writer)
         }

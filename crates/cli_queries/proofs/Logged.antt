@@ -1,14 +1,14 @@
 -- A log that is told of as it is read.
 use Rattle.std.proofs.Common.{◌≡◌, ℕ, ◌+◌, ◌<◌, List, [], ◌++◌, length, Option, Some, None, inl, inr, refl, subst, sym, ◌∙◌, arith, length-append}
-use Rattle.std.proofs.lemmas.List.Concat.{flat_map-append}
 use Rattle.std.specs.Io.KnownBytes.{Appends, Consumes, IsAtEnd}
 use Rattle.std.specs.Prelude.{Bool, IfErr, IfOk, IsErrAnd, IsTrue, Ok, OnOk, Err, Result}
 use Rattle.capspec.specs.Names.{IsFsName}
 use Rattle.texts.specs.declared.fault.ScriptFault.TheVariants as stops
 use Rattle.texts.proofs.KnownBytes.{appends_more, appends_same, appends_stay, consumed_is_there, consumes_nothing, consumes_more, none_appended, none_consumed}
-use Rattle.queries.specs.Reported.{Item, Scope, start, text_of, text_told}
+use Rattle.queries.specs.Reported.{Item, Scope, start, text_of}
 use Rattle.queries.specs.Reported.AreReported.{no_more}
-use Rattle.queries.specs.LogPieces.{HasTold, Teller, TellsEnd}
+use Rattle.queries.specs.LogPieces.{HasTold, Teller, TellsEnd, told_now}
+use Rattle.queries.proofs.CountedLog.{none_counted, nothing_now, now_more}
 use Rattle.queries.proofs.LogPieces.{all_of_log, piece_more}
 use Rattle.cli_queries.specs.declared.fault.AnswerFault.{AnswerFault}
 use Rattle.cli_queries.specs.declared.fault.AnswerFault.TheVariants.{Unread}
@@ -20,19 +20,19 @@ pub record SoFar (scope : Scope) (input now old new : Option (List ℕ)) (size :
   pub taken : List ℕ
   pub items : List Item
   pub consumed : Consumes input now taken
-  pub written : Appends old new (text_of scope items)
+  pub written : Appends old new (told_now scope (text_of scope items))
   pub tells : HasTold scope taken items t
   pub sized : length taken ≡ size
 
-nothing_told : (scope : Scope) → HasTold scope [] [] (record { state = start; unfinished = [] })
-nothing_told scope = record { ended = []; parted = refl; reported_are = no_more; left = omega arith; few = omega arith }
+nothing_told : (scope : Scope) → HasTold scope [] [] (record { state = start; counted = []; unfinished = [] })
+nothing_told scope = record { ended = []; parted = refl; reported_are = no_more; counted_are = none_counted scope; left = omega arith; few = omega arith }
 
-pub begun : (scope : Scope) (input old : Option (List ℕ)) (t : Teller) → t ≡ record { state = start; unfinished = [] } → SoFar scope input input old old 0 t
+pub begun : (scope : Scope) (input old : Option (List ℕ)) (t : Teller) → t ≡ record { state = start; counted = []; unfinished = [] } → SoFar scope input input old old 0 t
 begun scope input old t is = record {
   taken = [];
   items = [];
   consumed = none_consumed input;
-  written = none_appended old;
+  written = subst (λ (text : List ℕ). Appends old old text) (sym (nothing_now scope)) (none_appended old);
   tells = subst (λ (u : Teller). HasTold scope [] [] u) (sym is) (nothing_told scope);
   sized = refl;
 }
@@ -43,8 +43,8 @@ one_more scope input now next old mid new size after t u piece so read wrote lar
   taken = so.taken ++ piece;
   items = so.items ++ wrote.0;
   consumed = consumes_more input now next so.taken piece so.consumed read;
-  written = subst (λ (text : List ℕ). Appends old new text) (sym (flat_map-append (text_told scope) so.items wrote.0))
-      (appends_more old mid new (text_of scope so.items) (text_of scope wrote.0) so.written wrote.2);
+  written = subst (λ (text : List ℕ). Appends old new text) (sym (now_more scope so.items wrote.0))
+      (appends_more old mid new (told_now scope (text_of scope so.items)) (told_now scope (text_of scope wrote.0)) so.written wrote.2);
   tells = piece_more scope so.taken piece so.items wrote.0 t u so.tells wrote.1;
   sized = omega (arith, length-append so.taken piece, so.sized, larger);
 }
@@ -61,9 +61,9 @@ log_reported : (scope : Scope) (input now left old mid new : Option (List ℕ)) 
 log_reported scope input now left old mid new size t status named so read end wrote = record {
   named = named;
   reported = all_of (λ (log : List ℕ). (lines : List ℕ) × TellsLog scope log status lines × Appends old new lines) input left so.taken (consumes_nothing input now left so.taken [] so.consumed read refl) end (
-    text_of scope so.items ++ wrote.0,
+    told_now scope (text_of scope so.items) ++ wrote.0,
     (wrote.1, all_of_log scope so.taken wrote.0 so.items t wrote.1 so.tells wrote.2, wrote.4),
-    appends_more old mid new (text_of scope so.items) wrote.0 so.written wrote.3,
+    appends_more old mid new (told_now scope (text_of scope so.items)) wrote.0 so.written wrote.3,
   );
 }
 
@@ -85,7 +85,7 @@ stops_by scope input now old mid new size t unread unwritten fault so (inl misse
       taken = so.taken;
       items = so.items;
       consumed = so.consumed;
-      written = appends_stay old mid new (text_of scope so.items) so.written missed.1;
+      written = appends_stay old mid new (told_now scope (text_of scope so.items)) so.written missed.1;
       tells = so.tells;
       sized = so.sized;
     } in

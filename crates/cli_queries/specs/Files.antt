@@ -20,6 +20,6 @@ ReadsFile (invocations.Compare old new shape mds addr) = ⊥
 ReadsFile (invocations.Lint text shape mds) = ⊥
 ReadsFile (invocations.Who who_args) = who_args.auth.items ≢ codes "-"
 ReadsFile (invocations.Audit audit_args) = audit_args.files.tree.items ≢ codes "-"
-ReadsFile (invocations.Log fs only_denied mds shape) = ⊥
+ReadsFile (invocations.Log fs only_denied mds shape counts) = ⊥
 ReadsFile (invocations.Run more) = ⊥
 ReadsFile (invocations.Serve more) = ⊥

@@ -6,7 +6,7 @@ use Rattle.texts.specs.declared.fault.ScriptFault.TheVariants as stops
 use Rattle.queries.specs.declared.fault.QuestionFault.TheVariants.{BadValue}
 use Rattle.queries.specs.declared.options.Opt.TheVariants.{Fs}
 use Rattle.queries.specs.Reported.{IsReportOf, Item, Scope, text_of}
-use Rattle.queries.specs.LogPieces.{HasTold, Teller, TellsEnd, TellsPiece}
+use Rattle.queries.specs.LogPieces.{HasTold, Teller, TellsEnd, TellsPiece, told_now}
 use Rattle.cli_queries.specs.declared.fault.AnswerFault.{AnswerFault}
 use Rattle.cli_queries.specs.declared.fault.AnswerFault.TheVariants.{NoMemory, Question, Unread, WriteFailed}
 
@@ -27,9 +27,9 @@ pub record AnswersLog (scope : Scope) (input : Option (List ℕ)) (status : ℕ)
   pub named : IsFsName scope.fs
   pub reported : IfSome input (λ log. (lines : List ℕ) × TellsLog scope log status lines × Appends old new lines)
 
--- what was written tells of the first lines of the log
+-- what was written tells of the first lines of the log; where they are counted, nothing was
 abbrev pub TellsFirst : Scope → Option (List ℕ) → Option (List ℕ) → Option (List ℕ) → Type 0
-TellsFirst scope input old new = IfSome input (λ log. (front left : List ℕ) × (items : List Item) × (t : Teller) × (log ≡ front ++ left) × HasTold scope front items t × Appends old new (text_of scope items))
+TellsFirst scope input old new = IfSome input (λ log. (front left : List ℕ) × (items : List Item) × (t : Teller) × (log ≡ front ++ left) × HasTold scope front items t × Appends old new (told_now scope (text_of scope items)))
 
 -- a read failed, or the log is too long; or memory was missing
 abbrev pub IsUnreadLog : AnswerFault → Option (List ℕ) → Bool → Type 0
@@ -50,7 +50,7 @@ StopsLog scope fault input unread unwritten old new =
 
 -- what is told of the lines that end in a piece was written
 abbrev pub WritesPiece : Scope → Teller → List ℕ → Teller → Option (List ℕ) → Option (List ℕ) → Type 0
-WritesPiece scope t piece next old new = (items : List Item) × TellsPiece scope t piece items next × Appends old new (text_of scope items)
+WritesPiece scope t piece next old new = (items : List Item) × TellsPiece scope t piece items next × Appends old new (told_now scope (text_of scope items))
 
 -- what is told at the end was written, and this is the status
 abbrev pub WritesEnd : Scope → Teller → ℕ → Option (List ℕ) → Option (List ℕ) → Type 0

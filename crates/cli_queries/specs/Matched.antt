@@ -159,7 +159,8 @@ AsksFor name words (invocations.Compare old new shape mds addr) =
 AsksFor name words (invocations.Lint text shape mds) = (name ≡ codes "lint") × IsValue words (codes "text") text × IsShape words shape × IsMds words mds
 AsksFor name words (invocations.Who who_args) = (name ≡ codes "who") × IsWhoArgs words who_args
 AsksFor name words (invocations.Audit audit_args) = (name ≡ codes "audit") × IsAuditArgs words audit_args
-AsksFor name words (invocations.Log fs only_denied mds shape) = (name ≡ codes "log") × IsOption words options.Fs fs × IsFlag words (codes "denied") only_denied × IsMds words mds × IsShape words shape
+AsksFor name words (invocations.Log fs only_denied mds shape counts) =
+    (name ≡ codes "log") × IsOption words options.Fs fs × IsFlag words (codes "denied") only_denied × IsMds words mds × IsShape words shape × IsFlag words (codes "count") counts
 AsksFor name words (invocations.Run more) = (name ≡ codes "run") × IsFlag words (codes "more") more
 AsksFor name words (invocations.Serve more) = (name ≡ codes "serve") × IsFlag words (codes "more") more
 

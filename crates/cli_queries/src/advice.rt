@@ -85,6 +85,7 @@ fn value_of(invocation: &Invocation, option: Opt) -> &[u8] {
             only_denied: _,
             mds: _,
             shape: _,
+            counts: _,
         } => fs.as_slice(),
         Invocation::Compare { addr, .. } => value_or_none(addr),
         _ => b"",

@@ -63,6 +63,9 @@ pub const MDS: &str = "mds";
 
 pub const ONLY_DENIED: &str = "denied";
 
+/// The option that counts.
+pub const COUNTS: &str = "count";
+
 /// The value of `--grants`, of `--keyring` or of `--auth` that stands for standard input.
 pub const INPUT: &[u8] = b"-";
 
@@ -119,6 +122,8 @@ pub enum Invocation {
         mds: Option<Release>,
         /// By lines, or by objects.
         shape: Shape,
+        /// Whether what is told is counted.
+        counts: bool,
     },
     /// The transcript of a script.
     Run {
@@ -161,6 +166,7 @@ impl Drop for Invocation {
                 only_denied: _,
                 mds: _,
                 shape: _,
+                counts: _,
             } => {}
             Invocation::Run { more: _ } => {}
             Invocation::Serve { more: _ } => {}

@@ -4,8 +4,8 @@ ghost use Rattle.cli_queries.specs.Matched.{IsAskedBy};
 
 use crate::audit_args::{AuditArgs, ClusterFiles};
 use crate::command_line::{
-    AUDIT, AUTH, CLIENT, COMPARE, EXPLAIN, GRANTS, INPUT, Invocation, JSON, KEYRING, LINT, LOG,
-    MDS, MORE, NEW, OLD, ONLY_DENIED, QUIET, RULE, RUN, SERVE, SESSIONS, TEXT, TREE, WHO,
+    AUDIT, AUTH, CLIENT, COMPARE, COUNTS, EXPLAIN, GRANTS, INPUT, Invocation, JSON, KEYRING, LINT,
+    LOG, MDS, MORE, NEW, OLD, ONLY_DENIED, QUIET, RULE, RUN, SERVE, SESSIONS, TEXT, TREE, WHO,
 };
 use crate::explain_args::{ExplainArgs, Form, Source};
 use crate::who_args::WhoArgs;
@@ -74,6 +74,7 @@ impl Matched<'_, '_> {
                 only_denied: self.says(ONLY_DENIED),
                 mds: self.mds()?,
                 shape: self.shape(),
+                counts: self.says(COUNTS),
             }),
             _ => self.on_script(name),
         }

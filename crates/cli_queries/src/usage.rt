@@ -1,8 +1,8 @@
 //! The commands of the program and the words of each, as its help tells them.
 
 use crate::command_line::{
-    AUDIT, AUTH, CLIENT, COMPARE, EXPLAIN, GRANTS, JSON, KEYRING, LINT, LOG, MDS, MORE, NEW, OLD,
-    ONLY_DENIED, QUIET, RULE, RUN, SERVE, SESSIONS, TEXT, TREE, WHO,
+    AUDIT, AUTH, CLIENT, COMPARE, COUNTS, EXPLAIN, GRANTS, JSON, KEYRING, LINT, LOG, MDS, MORE,
+    NEW, OLD, ONLY_DENIED, QUIET, RULE, RUN, SERVE, SESSIONS, TEXT, TREE, WHO,
 };
 use queries::Opt;
 
@@ -308,7 +308,7 @@ const EXPLAIN_WORDS: [Word; 18] = [
     ADDRESS,
 ];
 
-const LOG_WORDS: [Word; 4] = [
+const LOG_WORDS: [Word; 5] = [
     Word {
         name: Name::Of(Opt::Fs),
         value: "NAME",
@@ -321,6 +321,14 @@ const LOG_WORDS: [Word; 4] = [
         name: Name::Own(ONLY_DENIED),
         value: "",
         help: "Leaves out what is allowed, and prints the rest: what is denied, and what can't be judged",
+        kind: Kind::Flag,
+        needs: None,
+        bars: &[],
+    },
+    Word {
+        name: Name::Own(COUNTS),
+        value: "",
+        help: "Counts what is told, but for what is allowed, by caller, path and reason, and prints the counts at the end",
         kind: Kind::Flag,
         needs: None,
         bars: &[],

@@ -5,6 +5,7 @@ use Rattle.std.specs.Prelude.{codes, All, IfSome, bytes_eq, is_some, ◌==◌, �
 use Rattle.std.specs.Fmt.{decimal}
 use Rattle.std.specs.List.{AllZip, flat_map, list_all}
 use Rattle.std.proofs.lemmas.Fmt.{decimal_by_steps}
+use Rattle.std.proofs.lemmas.Bool.{cond-false}
 use Rattle.std.proofs.lemmas.List.{append_cancel_left}
 use Rattle.std.proofs.lemmas.List.Elements.{All-append, All-cons, All-head, All-nil, All-tail}
 use Rattle.capspec.specs.declared.fault.SpecFault.{SpecFault}
@@ -71,7 +72,8 @@ use Rattle.queries.specs.Items.{HasLines, IsOfMask, IsTellable, SameOfLine, Same
 use Rattle.queries.specs.Told.Told.{answered, bad, formless, judged_by, not_read, pathless, refused, unknown}
 use Rattle.queries.specs.Masks.{accesses_of}
 use Rattle.queries.specs.Reported.{AreReported, AreValues, IsAnswered, IsAnsweredBy, IsFaulty, IsFaultyBy, IsReportOf, IsReported, IsUnreadBy, Item, Says, SaysBehind, SaysBy, SaysIf}
-use Rattle.queries.specs.Reported.{Scope, State, TellsFault, answer_there, answer_to, asking_all, of_line, path_or_root, text_of, with_access}
+use Rattle.queries.specs.Reported.{Scope, State, TellsFault, answer_there, answer_to, asking_all, counts_in, leaves_out, of_line, path_or_root, text_of, with_access}
+use Rattle.queries.specs.Kinds.{kind_in}
 use Rattle.queries.specs.Told.{Told, is_leave, lines_of, passed_in, passed_line}
 use Rattle.queries.specs.Reported.AreReported.{no_more, one_more}
 use Rattle.queries.specs.Reported.IsReported.{checked, kept, passed_over}
@@ -454,15 +456,27 @@ unless : (left : Bool) (shape : Shape) (item : Item) (text : List ℕ) (xs : Lis
 unless true shape item text xs fits all is = (xs, all, is)
 unless false shape item text xs fits all is = (item ∷ xs, All-cons HasLines item xs fits all, ap (λ (t : List ℕ). item_in shape item ++ t) is)
 
-fewer : (scope : Scope) (items : List Item) → All HasLines items → FewerTold scope items
-fewer scope [] all = ([], All-nil HasLines, refl)
-fewer scope (item ∷ items) all =
-    let rest = fewer scope items (All-tail HasLines item items all) in
-    unless (scope.only_denied && is_leave item.1) scope.shape item (text_of scope items) rest.0 (All-head HasLines item items all) rest.1 rest.2
+fewer : (scope : Scope) (items : List Item) → scope.counts ≡ false → All HasLines items → FewerTold scope items
+fewer scope [] plain all = ([], All-nil HasLines, refl)
+fewer scope (item ∷ items) plain all =
+    let rest = fewer scope items plain (All-tail HasLines item items all) in
+    let left : Bool = leaves_out scope && is_leave item.1 in
+    let told = unless left scope.shape item (text_of scope items) rest.0 (All-head HasLines item items all) rest.1 rest.2 in (
+      told.0,
+      told.1,
+      ap (λ (t : List ℕ). (if left then [] else t) ++ text_of scope items) (cond-false scope.counts (kind_in scope.shape item.1) (item_in scope.shape item) plain) ∙ told.2,
+    )
 
-pub each_has_its_lines : (scope : Scope) (log reported : List ℕ) (judged : Bool) → length log < 2 ^ 62 → IsReportOf scope log reported judged
+pub each_has_its_lines : (scope : Scope) (log reported : List ℕ) (judged : Bool) → scope.counts ≡ false → length log < 2 ^ 62 → IsReportOf scope log reported judged
     → (xs : List Item) × (passed : ℕ) × All HasLines xs × (passed < 2 ^ 64) × (reported ≡ reported_in scope.shape xs passed)
-each_has_its_lines scope log reported judged short says =
+each_has_its_lines scope log reported judged plain short says =
     let are = says.2.1 in
-    let told = fewer scope says.0 (of_lines (length log) (lines log) (omega (arith, short, few_lines log)) (omega (arith, short)) (short_lines log) are) in
-    (told.0, says.1, told.1, omega (arith, short, few_lines log, few_at_end (lines log) are, says.2.2), says.3 ∙ ap (λ (r : List ℕ). r ++ passed_in scope.shape says.1) told.2)
+    let items = says.0 in
+    let passed = says.1 in
+    let told = fewer scope items plain (of_lines (length log) (lines log) (omega (arith, short, few_lines log)) (omega (arith, short)) (short_lines log) are) in (
+      told.0,
+      passed,
+      told.1,
+      omega (arith, short, few_lines log, few_at_end (lines log) are, says.2.2),
+      says.3 ∙ ap (λ (r : List ℕ). r ++ passed_in scope.shape passed) (cond-false scope.counts (counts_in scope items) (text_of scope items) plain ∙ told.2),
+    )

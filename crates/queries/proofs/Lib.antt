@@ -12,6 +12,10 @@ pub mod Looked
 pub mod Linted
 pub mod Marks
 pub mod LogLines
+pub mod TextLines
+pub mod Counted
+pub mod CountedLog
+pub mod LineCounts
 pub mod LogPieces
 pub mod Fitting
 pub mod AnyPaths

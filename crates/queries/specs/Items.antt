@@ -1,5 +1,5 @@
 -- The things that are told of a log: its text tells which.
-use Rattle.std.specs.Prelude.{◌≡◌, ℕ, ◌<◌, ◌^◌, Bool, None, List, ◌++◌, length, All}
+use Rattle.std.specs.Prelude.{◌≡◌, ℕ, ◌<◌, ◌^◌, Bool, false, None, List, ◌++◌, length, All}
 use Rattle.std.specs.List.{AllZip, flat_map}
 use Rattle.hex.specs.Hex.{IsBytes}
 use Rattle.texts.specs.declared.mds_asked.MdsAccess.{MdsAccess}
@@ -91,7 +91,7 @@ abbrev pub OneLogOfObjects : Type 0
 OneLogOfObjects = (xs ys : List Item) (m n : ℕ) → All HasObject xs → All HasObject ys → ReadsBack (passed_value m) → ReadsBack (passed_value n)
     → reported_in Objects xs m ≡ reported_in Objects ys n → AllZip SameOfLine xs ys × (m ≡ n)
 
--- what is told of a log that is not too long is such things
+-- what is told of a log that is not too long, and not counted, is such things
 abbrev pub EachHasItsLines : Type 0
-EachHasItsLines = (scope : Scope) (log reported : List ℕ) (judged : Bool) → length log < 2 ^ 62 → IsReportOf scope log reported judged
+EachHasItsLines = (scope : Scope) (log reported : List ℕ) (judged : Bool) → scope.counts ≡ false → length log < 2 ^ 62 → IsReportOf scope log reported judged
     → (xs : List Item) × (passed : ℕ) × All HasLines xs × (passed < 2 ^ 64) × (reported ≡ reported_in scope.shape xs passed)

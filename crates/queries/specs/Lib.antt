@@ -18,6 +18,8 @@ pub mod WrittenChecks
 pub mod AnyPath
 pub mod Masks
 pub mod Told
+pub mod Kinds
+pub mod Counts
 pub mod Reported
 pub mod LogPieces
 pub mod Items

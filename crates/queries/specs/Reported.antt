@@ -1,5 +1,5 @@
 -- What is told of a log, line by line.
-use Rattle.std.specs.Prelude.{◌≡◌, ◌⊎◌, ℕ, ◌+◌, ◌==◌, Bool, true, false, ◌&&◌, Option, Some, None, is_some, map, option_map, List, [], ◌∷◌, ◌++◌, length}
+use Rattle.std.specs.Prelude.{◌≡◌, ◌⊎◌, ℕ, ◌+◌, ◌==◌, Bool, true, false, ◌&&◌, ◌||◌, Option, Some, None, is_some, map, option_map, List, [], ◌∷◌, ◌++◌, length}
 use Rattle.std.specs.Prelude.{codes, if◌then◌else◌}
 use Rattle.std.specs.List.{flat_map, list_all}
 use Rattle.capgrant.specs.declared.access.Access.{Access}
@@ -18,6 +18,8 @@ use Rattle.queries.specs.Question.{AsksBy, AsksFor, IsFaultIn, IsFaultOfAsking}
 use Rattle.texts.specs.declared.mds_asked.MdsAccess.TheVariants.{Mask as AllOf, One}
 use Rattle.texts.specs.ScriptLines.{lines}
 use Rattle.texts.specs.declared.shape.Shape.{Shape}
+use Rattle.queries.specs.Counts.{counted_in, counts, ended}
+use Rattle.queries.specs.Kinds.{kind_in}
 use Rattle.queries.specs.Told.{Told, is_judgement, is_leave, passed_in, text_in}
 use Rattle.queries.specs.Told.Told.{answered, bad, formless, judged_by, not_read, pathless, refused, unknown}
 use Rattle.queries.specs.declared.log_scope.LogScope.{LogScope}
@@ -29,19 +31,20 @@ use Rattle.queries.specs.AnyPath.{any_path_by, any_path_of}
 use Rattle.queries.specs.Masks.{AreNumbersOf, IsMaskOf, accesses_of}
 
 -- what is to be told of a log: on the file system of this name, where a check has none; of all, or of what is denied alone; by the rules of
--- this release, or by this server's; by lines or by objects
+-- this release, or by this server's; by lines or by objects; each thing by itself, or counted
 pub record Scope : Type 0 where
   pub fs : List ℕ
   pub only_denied : Bool
   pub release : Option Release
   pub shape : Shape
+  pub counts : Bool
 
-abbrev pub scope : List ℕ → Bool → Option Release → Shape → Scope
-scope fs only_denied release shape = record { fs = fs; only_denied = only_denied; release = release; shape = shape }
+abbrev pub scope : List ℕ → Bool → Option Release → Shape → Bool → Scope
+scope fs only_denied release shape counts = record { fs = fs; only_denied = only_denied; release = release; shape = shape; counts = counts }
 
 -- the same of what the code has
 abbrev pub scope_of : LogScope → Scope
-scope_of s = scope s.fs.now s.only_denied s.release s.shape
+scope_of s = scope s.fs.now s.only_denied s.release s.shape s.counts
 
 -- the values of a question by the parts of a check, and by what is given beside it: to read, at this path
 pub record AreValues (given : GivenTexts) (at : List ℕ) (check : CheckTexts) (v : Values) : Type 0 where
@@ -168,9 +171,16 @@ Item = ℕ × Told
 abbrev pub of_line : ℕ → List Told → List Item
 of_line number told = map (λ one. (number, one)) told
 
--- where what is denied is told alone, what is allowed is left out
+-- with the number of its line, or only of which kind it is, so that it can be counted
+abbrev pub item_text : Scope → Item → List ℕ
+item_text scope item = if scope.counts then kind_in scope.shape item.1 else text_in scope.shape item.0 item.1
+
+-- what is allowed is left out where what is denied is told alone, or counted
+abbrev pub leaves_out : Scope → Bool
+leaves_out scope = scope.only_denied || scope.counts
+
 abbrev pub text_told : Scope → Item → List ℕ
-text_told scope item = if scope.only_denied && is_leave item.1 then [] else text_in scope.shape item.0 item.1
+text_told scope item = if leaves_out scope && is_leave item.1 then [] else item_text scope item
 
 abbrev pub text_of : Scope → List Item → List ℕ
 text_of scope items = flat_map (text_told scope) items
@@ -217,9 +227,13 @@ pub data AreReported (scope : Scope) : State → List (List ℕ) → List Item �
   no_more : {s : State} → AreReported scope s [] [] s
   one_more : {s next end : State} {line : List ℕ} {lines : List (List ℕ)} (first more : List Item) → IsReported scope s line first next → AreReported scope next lines more end → AreReported scope s (line ∷ lines) (first ++ more) end
 
--- the text of that, with how many lines were passed over
+-- each line of its text, which is a kind of things, once, with how often it stands there
+abbrev pub counts_in : Scope → List Item → List ℕ
+counts_in scope items = flat_map (counted_in scope.shape) (counts (ended (text_of scope items)))
+
+-- the text of that, or its counts; with how many lines were passed over
 abbrev pub log_text : Scope → List Item → ℕ → List ℕ
-log_text scope items passed = text_of scope items ++ passed_in scope.shape passed
+log_text scope items passed = (if scope.counts then counts_in scope items else text_of scope items) ++ passed_in scope.shape passed
 
 -- these things are told of the lines of a log, and so many lines are passed over; and whether each check of it is judged
 abbrev pub AreTold : Scope → List ℕ → List Item → ℕ → Bool → Type 0

@@ -1,5 +1,11 @@
 //! Laws of what is told of a log. No program needs to call them.
 
+ghost use Rattle.std.specs.Prelude.{◌≡◌, ℕ};
+ghost use Rattle.serde_json.specs.Data.{Data};
+ghost use Rattle.serde_json.specs.Written.{compact_text};
+ghost use Rattle.texts.specs.declared.shape.Shape.TheVariants.{Objects};
+ghost use Rattle.texts.specs.Values.{json_line};
+ghost use Rattle.queries.specs.Counts.{count_value, counted_in};
 ghost use Rattle.queries.specs.Items.{EachHasItsLines, OneLog, OneLogOfObjects};
 ghost use Rattle.queries.specs.WrittenChecks.{CheckReadsBack, HeadReadsBack};
 
@@ -9,6 +15,11 @@ pub fn one_text_for_what_is_reported()
     ensures things { EachHasItsLines }
     ensures reported { OneLog }
     ensures objects { OneLogOfObjects }
+{}
+
+/// What is written for a count by the text of the object that was counted is the line of the count's object.
+pub fn one_object_for_a_count()
+    ensures { (count : ℕ) (each : Data) → counted_in Objects (compact_text each, count) ≡ json_line (count_value count each) }
 {}
 
 /// A check that is written as an MDS writes it reads back as it is, whatever its path, its numbers and its grants are: no name in the path can

@@ -14,6 +14,20 @@ pub struct LogScope<'a> {
     pub release: Option<Release>,
     /// By lines, or by objects.
     pub shape: Shape,
+    /// Whether what is told is counted, and the counts are told at the end in its place.
+    pub counts: bool,
+}
+
+impl LogScope<'_> {
+    ghost use Rattle.std.specs.Prelude.{◌≡◌};
+    ghost use Rattle.queries.specs.Reported.{leaves_out, scope_of};
+
+    // Whether what is allowed is left out: where what is denied is told alone, or counted.
+    pub(crate) fn leaves_out(&self) -> bool
+        ensures { result ≡ leaves_out (scope_of self.now) }
+    {
+        self.only_denied || self.counts
+    }
 }
 
 /// A line of a log.

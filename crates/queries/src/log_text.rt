@@ -11,6 +11,7 @@ ghost use Rattle.queries.specs.Reported.{IsReported, Item, Says, SaysBehind, Tel
 use crate::before::{Before, Given, given_for, is_before, said_before};
 use crate::check::{Check, check_in, read_check, read_head};
 use crate::fault::QuestionFault;
+use crate::line_counts::LineCounts;
 use crate::log_by::print_by_release;
 use crate::log_scope::{LogLine, LogScope};
 use crate::mask::{accesses, read_mask};
@@ -51,6 +52,8 @@ impl Drop for LogState {
 /// line is told of once it has ended.
 pub struct LogTeller {
     state: LogState,
+    // How often each line was told, where they are counted.
+    counts: LineCounts,
     // The line that has not ended yet.
     unfinished: Vec<u8>,
 }
@@ -60,6 +63,7 @@ impl Drop for LogTeller {
     fn drop(self) {
         let LogTeller {
             state: _,
+            counts: _,
             unfinished: _,
         } = self;
     }
@@ -67,15 +71,18 @@ impl Drop for LogTeller {
 
 impl LogTeller {
     ghost use Rattle.std.specs.Prelude.{◌≡◌, ◌++◌, ◌+◌, ◌<◌, ◌^◌, [], ℕ, List, length, IfOk, OnOk};
-    ghost use Rattle.queries.specs.LogPieces.{TellsEnd, TellsPiece, teller_of};
+    ghost use Rattle.queries.specs.Counts.{counts_of};
+    ghost use Rattle.queries.specs.LogPieces.{TellsEnd, TellsPiece, counted_after, teller_of, told_now};
+    ghost use Rattle.queries.specs.Reported.{state_of};
     ghost use Rattle.queries.specs.Reported.{Item, scope_of, start, text_of};
 
     /// Before the first piece.
     pub fn new(alloc: Global) -> LogTeller
-        ensures { teller_of result ≡ record { state = start; unfinished = [] } }
+        ensures { teller_of result ≡ record { state = start; counted = []; unfinished = [] } }
     {
         LogTeller {
             state: LogState::new(alloc),
+            counts: LineCounts::new(alloc),
             unfinished: Vec::new(alloc),
         }
     }
@@ -89,14 +96,17 @@ impl LogTeller {
     ) -> Result<(), AllocError>
         requires room { (teller_of self.old).state.number + length (teller_of self.old).unfinished + length piece.now < 2 ^ 64 }
         requires few { (teller_of self.old).state.passed < (teller_of self.old).state.number }
-        ensures { OnOk result ((items : List Item) × (reported.new.items ≡ reported.old.items ++ text_of (scope_of scope.entry) items)
+        ensures { OnOk result ((items : List Item) × (reported.new.items ≡ reported.old.items ++ told_now (scope_of scope.entry) (text_of (scope_of scope.entry) items))
             × TellsPiece (scope_of scope.entry) (teller_of self.old) piece.now items (teller_of self.new)) }
     {
+        let alloc = *reported.allocator();
         self.unfinished.extend_from_slice(piece)?;
-        let rest = print_lines(reported, &mut self.state, scope, self.unfinished.as_slice())?;
-        let unfinished = Vec::from_slice(*reported.allocator(), rest)?;
+        let mut told = Vec::new(alloc);
+        let text = self.unfinished.as_slice();
+        let rest = print_lines(&mut told, &mut self.state, scope, text)?;
+        let unfinished = Vec::from_slice(alloc, rest)?;
         self.unfinished = unfinished;
-        Ok(())
+        self.hand_on(reported, scope, told.as_slice())
     }
 
     /// Appends what is told of the last line, and how many lines are no checks; and answers whether each check of the log was judged.
@@ -110,9 +120,31 @@ impl LogTeller {
         ensures { IfOk result (λ judged. (more : List ℕ) × (reported.new.items ≡ reported.old.items ++ more)
             × TellsEnd (scope_of scope.entry) (teller_of self.old) more judged) }
     {
-        print_line(reported, &mut self.state, scope, self.unfinished.as_slice())?;
+        let mut told = Vec::new(*reported.allocator());
+        let last = self.unfinished.as_slice();
+        print_line(&mut told, &mut self.state, scope, last)?;
+        self.hand_on(reported, scope, told.as_slice())?;
+        self.counts.print(reported, scope.shape)?;
         print_passed(reported, scope.shape, self.state.passed)?;
         Ok(self.state.is_judged)
+    }
+
+    // Appends what is told, or counts it.
+    fn hand_on(
+        &mut self,
+        reported: &mut Vec<u8>,
+        scope: LogScope<'_>,
+        told: &[u8],
+    ) -> Result<(), AllocError>
+        ensures state { state_of self.new.state ≡ state_of self.old.state }
+        ensures unfinished { self.new.unfinished.items ≡ self.old.unfinished.items }
+        ensures counted { OnOk result (counts_of self.new.counts ≡ counted_after (scope_of scope.entry) (counts_of self.old.counts) told.now) }
+        ensures told { OnOk result (reported.new.items ≡ reported.old.items ++ told_now (scope_of scope.entry) told.now) }
+    {
+        if scope.counts {
+            return self.counts.note_all(told);
+        }
+        reported.extend_from_slice(told)
     }
 }
 

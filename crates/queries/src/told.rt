@@ -3,11 +3,12 @@ ghost use Rattle.std.specs.Prelude.{◌≡◌, ◌++◌, [], ◌∷◌, IfOk, On
 ghost use Rattle.texts.specs.Pieces.{piece_value};
 ghost use Rattle.texts.specs.Quoting.{quoted};
 ghost use Rattle.texts.specs.Values.{json_line};
-ghost use Rattle.queries.specs.Reported.{of_line, scope_of, text_of};
+ghost use Rattle.queries.specs.Reported.{item_text, of_line, scope_of, text_of};
 ghost use Rattle.queries.specs.Told.{any_grant, any_word, behind, is_judgement, lines_of, object_value, text_in, told_of};
 
 use crate::any_path::{AnyPath, print_any_path};
-use crate::log_scope::LogLine;
+use crate::kinds::print_kind;
+use crate::log_scope::{LogLine, LogScope};
 use crate::mds::{MdsAnswer, MdsAsking, NotRead};
 use crate::options::Opt;
 use crate::question::Question;
@@ -43,10 +44,10 @@ impl Told<'_> {
     ghost use Rattle.queries.specs.Told.{is_judgement, is_leave, told_of};
 
     // Whether it is left out, where what is allowed may be.
-    fn is_left_out(&self, alloc: Global, only_denied: bool) -> Result<bool, AllocError>
-        ensures { IfOk result (λ left. left ≡ (only_denied && is_leave (told_of self.now))) }
+    fn is_left_out(&self, alloc: Global, may_be: bool) -> Result<bool, AllocError>
+        ensures { IfOk result (λ left. left ≡ (may_be && is_leave (told_of self.now))) }
     {
-        if !only_denied {
+        if !may_be {
             return Ok(false);
         }
         match self {
@@ -81,12 +82,28 @@ pub(crate) fn print_told(
     ensures judged { IfOk result (λ judged. judged ≡ is_judgement (told_of told.entry)) }
 {
     let is_judgement = told.is_judgement();
-    let is_left_out = told.is_left_out(*reported.allocator(), line.scope.only_denied)?;
+    let may_be = line.scope.leaves_out();
+    let is_left_out = told.is_left_out(*reported.allocator(), may_be)?;
     if is_left_out {
         return Ok(is_judgement);
     }
-    print_in(reported, line.scope.shape, line.number, told)?;
+    print_by_scope(reported, line, told)?;
     Ok(is_judgement)
+}
+
+// With the number of the line, or to be counted.
+fn print_by_scope(
+    reported: &mut Vec<u8>,
+    line: LogLine<'_>,
+    told: Told<'_>,
+) -> Result<(), AllocError>
+    ensures { OnOk result (reported.new.items ≡ reported.old.items ++ item_text (scope_of line.entry.scope) (line.entry.number, told_of told.entry)) }
+{
+    let LogScope { shape, counts, .. } = line.scope;
+    if counts {
+        return print_kind(reported, shape, told);
+    }
+    print_in(reported, shape, line.number, told)
 }
 
 fn print_in(
@@ -227,7 +244,7 @@ fn print_object(reported: &mut Vec<u8>, number: u64, told: Told<'_>) -> Result<(
     }
 }
 
-fn any_word(any: AnyPath) -> &'static str
+pub(crate) fn any_word(any: AnyPath) -> &'static str
     ensures { result.now ≡ any_word any }
 {
     match any {
@@ -238,7 +255,7 @@ fn any_word(any: AnyPath) -> &'static str
     }
 }
 
-fn any_grant(any: AnyPath) -> Piece<'static>
+pub(crate) fn any_grant(any: AnyPath) -> Piece<'static>
     ensures { piece_value result ≡ any_grant any }
 {
     match any {

@@ -41,8 +41,8 @@ pub(crate) fn print_outcome(
     }
 }
 
-// Appends by which grant or rules it is so.
-pub(crate) fn print_reason(line: &mut Vec<u8>, verdict: &Verdict) -> Result<(), AllocError>
+/// Appends by which grant or rules it is so, behind a space. `AllocError` where no memory is left for it; some of it may stand in the line then.
+pub fn print_reason(line: &mut Vec<u8>, verdict: &Verdict) -> Result<(), AllocError>
     ensures { OnOk result (line.new.items ≡ line.old.items ++ reason_text verdict.now) }
 {
     match verdict {

@@ -65,7 +65,8 @@ fn put_mds(members: &mut Members, alloc: Global, said: &MdsSaid<'_>) -> Result<(
     put_all(members, alloc, &table)
 }
 
-fn mds_word(verdict: &Verdict) -> &'static str
+/// The word for an answer of an MDS in an object.
+pub fn mds_word(verdict: &Verdict) -> &'static str
     ensures { result.now ≡ mds_word verdict.now }
 {
     match verdict {
@@ -77,7 +78,7 @@ fn mds_word(verdict: &Verdict) -> &'static str
 }
 
 /// The grant that the verdict is by.
-pub(crate) fn grant_piece(verdict: &Verdict) -> Piece<'static>
+pub fn grant_piece(verdict: &Verdict) -> Piece<'static>
     ensures { piece_value result ≡ grant_value verdict.now }
 {
     match verdict {
@@ -89,7 +90,7 @@ pub(crate) fn grant_piece(verdict: &Verdict) -> Piece<'static>
 }
 
 /// The rules that it is by.
-pub(crate) fn failures_piece(verdict: &Verdict) -> Piece<'_>
+pub fn failures_piece(verdict: &Verdict) -> Piece<'_>
     ensures { piece_value result ≡ failures_value verdict.now }
 {
     match verdict {

@@ -38,7 +38,7 @@ fn print_mds_line(
     ensures { OnOk result (text.new.items ≡ text.old.items ++ mds_line access (map (λ name. name.now) path.now) verdict.now) }
 {
     let pieces = [
-        Text::Word(outcome(verdict)),
+        Text::Word(mds_outcome(verdict)),
         Text::Access(access),
         Text::Word(" "),
         Text::Path(path),
@@ -47,8 +47,8 @@ fn print_mds_line(
     print_mds_reason(text, verdict)
 }
 
-// What is said before the access.
-fn outcome(verdict: &Verdict) -> &'static str
+/// What is said of an answer of an MDS before all else, with a space behind it.
+pub fn mds_outcome(verdict: &Verdict) -> &'static str
     ensures { result.now ≡ mds_outcome verdict.now }
 {
     match verdict {
@@ -58,8 +58,9 @@ fn outcome(verdict: &Verdict) -> &'static str
     }
 }
 
-/// Appends by which grant or rules an MDS answers so, behind a space.
-pub(crate) fn print_mds_reason(text: &mut Vec<u8>, verdict: &Verdict) -> Result<(), AllocError>
+/// Appends by which grant or rules an MDS answers so, behind a space. `AllocError` where no memory is left for it; some of it may stand in the text
+/// then.
+pub fn print_mds_reason(text: &mut Vec<u8>, verdict: &Verdict) -> Result<(), AllocError>
     ensures { OnOk result (text.new.items ≡ text.old.items ++ mds_reason verdict.now) }
 {
     match verdict {

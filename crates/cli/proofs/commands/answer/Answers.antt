@@ -37,7 +37,7 @@ returns-in-Err-clause-err g c = elim c.match-invocation.branch [
       let stops = λ (fault : AnswerFault). StopsAuditArgs w.in-Audit.audit_args fault (g.R.Read.remaining (inner_of c.args.reader.now)) (has_failed w.audit-answered.new.reader) (has_failed w.audit-answered.new.writer) (g.W.Write.contents (inner_of c.args.writer.now)) (g.W.Write.contents (inner_of w.audit-answered.new.writer)) in
       rw (w.in-Audit.is, w.reader-is, w.writer-is) (IfErr-at_err stops (sym w.answered-is ∙ c.in-Err.is) w.audit-answered.ensures.err)
   | in-Log w ↦
-      let stops = λ (fs : List ℕ) (fault : AnswerFault). StopsLog (scope fs w.in-Log.only_denied w.in-Log.mds w.in-Log.shape) fault (g.R.Read.remaining (inner_of c.args.reader.now)) (has_failed w.log-answered.new.reader) (has_failed w.log-answered.new.writer) (g.W.Write.contents (inner_of c.args.writer.now)) (g.W.Write.contents (inner_of w.log-answered.new.writer)) in
+      let stops = λ (fs : List ℕ) (fault : AnswerFault). StopsLog (scope fs w.in-Log.only_denied w.in-Log.mds w.in-Log.shape w.in-Log.counts) fault (g.R.Read.remaining (inner_of c.args.reader.now)) (has_failed w.log-answered.new.reader) (has_failed w.log-answered.new.writer) (g.W.Write.contents (inner_of c.args.writer.now)) (g.W.Write.contents (inner_of w.log-answered.new.writer)) in
       let reported = subst (λ (fs : List ℕ). IfErr w.log-answered.result (stops fs)) w.as_slice-in-Log.ensures.value w.log-answered.ensures.err in
       rw (w.in-Log.is, w.reader-is, w.writer-is) (IfErr-at_err (stops w.in-Log.fs.items) (sym w.answered-is ∙ c.in-Err.is) reported)
 ]
