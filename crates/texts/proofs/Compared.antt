@@ -1,5 +1,5 @@
 -- The lines of a comparison are those of one.
-use Rattle.std.proofs.Common.{◌≡◌, ℕ, ◌+◌, ◌<◌, ◌^◌, ◌/◌, ◌%◌, Bool, true, not, nat_lt, Option, Some, None, List, [], ◌∷◌, ◌++◌, refl, sym, ap, ◌∙◌}
+use Rattle.std.proofs.Common.{◌≡◌, ℕ, ◌+◌, ◌<◌, ◌≤◌, ◌^◌, ◌/◌, ◌%◌, Bool, true, not, nat_lt, Option, Some, None, List, [], ◌∷◌, ◌++◌, refl, sym, ap, ◌∙◌}
 use Rattle.std.proofs.Common.{append_assoc, arith}
 use Rattle.std.specs.Prelude.{All, IfSome, codes}
 use Rattle.std.specs.Fmt.{decimal}
@@ -180,27 +180,36 @@ one_witness v w s t reported too same =
 
 -- ---- both lines
 
-one_loss : (l m : Option Witness) → IfSome l IsReported → IfSome m IsReported → found_line (codes "lost: ") l ≡ found_line (codes "lost: ") m → SameIf l m
-one_loss None None reported too same = tt
-one_loss None (Some w) reported too same = clash 0 108 (omega arith) (ap first_byte same)
-one_loss (Some v) None reported too same = clash 0 108 (omega arith) (sym (ap first_byte same))
-one_loss (Some v) (Some w) reported too same =
-    let behind = append_cancel_left (codes "lost: ") (witness_text v ++ codes "\n") (witness_text w ++ codes "\n") same in
-    (one_witness v w [] [] reported too (ap (λ (r : List ℕ). r ++ []) behind)).0
+-- What stands behind is no such line: it is empty, or begins with a lower byte.
 
-gained_line : (w : Witness) (l : Option Witness) → comparison (Some w) l ≡ codes "gained: " ++ ((witness_text w ++ codes "\n") ++ found_line (codes "lost: ") l)
-gained_line w l = refl
+one_loss : (l m : Option Witness) (s t : List ℕ) → IfSome l IsReported → IfSome m IsReported → first_byte s ≤ 98 → first_byte t ≤ 98 → found_line (codes "lost: ") l ++ s ≡ found_line (codes "lost: ") m ++ t → SameIf l m × (s ≡ t)
+one_loss None None s t reported too low also same = (tt, same)
+one_loss None (Some w) s t reported too low also same = clash (first_byte s) 108 (omega (arith, low)) (ap first_byte same)
+one_loss (Some v) None s t reported too low also same = clash (first_byte t) 108 (omega (arith, also)) (sym (ap first_byte same))
+one_loss (Some v) (Some w) s t reported too low also same =
+    let behind = append_cancel_left (codes "lost: ") ((witness_text v ++ codes "\n") ++ s) ((witness_text w ++ codes "\n") ++ t) same in
+    one_witness v w s t reported too behind
+
+gained_line : (w : Witness) (l : Option Witness) (s : List ℕ) → comparison (Some w) l ++ s ≡ codes "gained: " ++ ((witness_text w ++ codes "\n") ++ (found_line (codes "lost: ") l ++ s))
+gained_line w l s = ap (λ (r : List ℕ). codes "gained: " ++ r) (append_assoc (witness_text w ++ codes "\n") (found_line (codes "lost: ") l) s)
+
+pub one_comparison_before : (g h l m : Option Witness) (s t : List ℕ) → IfSome g IsReported → IfSome h IsReported → IfSome l IsReported → IfSome m IsReported → first_byte s ≤ 98 → first_byte t ≤ 98
+    → comparison g l ++ s ≡ comparison h m ++ t → (SameIf g h × SameIf l m) × (s ≡ t)
+one_comparison_before None None None None s t a b c d low also same = ((tt, tt), append_cancel_left (codes "the same\n") s t same)
+one_comparison_before None None None (Some w) s t a b c d low also same = clash 108 116 (omega arith) (sym (ap first_byte same))
+one_comparison_before None None (Some v) None s t a b c d low also same = clash 108 116 (omega arith) (ap first_byte same)
+one_comparison_before None None (Some v) (Some w) s t a b c d low also same =
+    let both = one_loss (Some v) (Some w) s t c d low also same in
+    ((tt, both.0), both.1)
+one_comparison_before None (Some h) None m s t a b c d low also same = clash 103 116 (omega arith) (sym (ap first_byte (same ∙ gained_line h m t)))
+one_comparison_before None (Some h) (Some v) m s t a b c d low also same = clash 103 108 (omega arith) (sym (ap first_byte (same ∙ gained_line h m t)))
+one_comparison_before (Some g) None l None s t a b c d low also same = clash 103 116 (omega arith) (ap first_byte (sym (gained_line g l s) ∙ same))
+one_comparison_before (Some g) None l (Some w) s t a b c d low also same = clash 103 108 (omega arith) (ap first_byte (sym (gained_line g l s) ∙ same))
+one_comparison_before (Some g) (Some h) l m s t a b c d low also same =
+    let behind = append_cancel_left (codes "gained: ") _ _ (sym (gained_line g l s) ∙ same ∙ gained_line h m t) in
+    let first = one_witness g h (found_line (codes "lost: ") l ++ s) (found_line (codes "lost: ") m ++ t) a b behind in
+    let both = one_loss l m s t c d low also first.1 in
+    ((first.0, both.0), both.1)
 
 pub one_comparison : (g h l m : Option Witness) → IfSome g IsReported → IfSome h IsReported → IfSome l IsReported → IfSome m IsReported → comparison g l ≡ comparison h m → SameIf g h × SameIf l m
-one_comparison None None None None a b c d same = (tt, tt)
-one_comparison None None None (Some w) a b c d same = clash 108 116 (omega arith) (sym (ap first_byte same))
-one_comparison None None (Some v) None a b c d same = clash 108 116 (omega arith) (ap first_byte same)
-one_comparison None None (Some v) (Some w) a b c d same = (tt, one_loss (Some v) (Some w) c d same)
-one_comparison None (Some h) None m a b c d same = clash 103 116 (omega arith) (sym (ap first_byte (same ∙ gained_line h m)))
-one_comparison None (Some h) (Some v) m a b c d same = clash 103 108 (omega arith) (sym (ap first_byte (same ∙ gained_line h m)))
-one_comparison (Some g) None l None a b c d same = clash 103 116 (omega arith) (ap first_byte (sym (gained_line g l) ∙ same))
-one_comparison (Some g) None l (Some w) a b c d same = clash 103 108 (omega arith) (ap first_byte (sym (gained_line g l) ∙ same))
-one_comparison (Some g) (Some h) l m a b c d same =
-    let behind = append_cancel_left (codes "gained: ") _ _ (sym (gained_line g l) ∙ same ∙ gained_line h m) in
-    let both = one_witness g h (found_line (codes "lost: ") l) (found_line (codes "lost: ") m) a b behind in
-    (both.0, one_loss l m c d both.1)
+one_comparison g h l m a b c d same = (one_comparison_before g h l m [] [] a b c d (omega arith) (omega arith) (ap (λ (r : List ℕ). r ++ []) same)).0

@@ -15,13 +15,13 @@ use Rattle.serde_json.specs.Written.{comma_if, compact_text, items_text, members
 use Rattle.texts.proofs.Quoted.{parted_at}
 use Rattle.texts.specs.Values.{ReadsBack, json_line}
 
-abbrev is_inside : ℕ → Bool
+abbrev pub is_inside : ℕ → Bool
 is_inside byte = not (byte == 10)
 
 abbrev IsInside : ℕ → Type 0
 IsInside byte = is_inside byte ≡ true
 
-abbrev IsOneLine : List ℕ → Type 0
+abbrev pub IsOneLine : List ℕ → Type 0
 IsOneLine text = list_all is_inside text ≡ true
 
 inside : (byte : ℕ) → (byte ≡ 10 → ⊥) → IsInside byte
@@ -93,7 +93,7 @@ in_comma true = refl
 in_comma false = refl
 
 mutual
-  in_value : (d : Data) → IsOneLine (compact_text d)
+  pub in_value : (d : Data) → IsOneLine (compact_text d)
   in_value null = refl
   in_value (boolean true) = refl
   in_value (boolean false) = refl

@@ -21,10 +21,14 @@ owner_text attr = codes " owner " ++ (decimal attr.uid ++ (codes " group " ++ (d
 abbrev pub witness_text : Witness → List ℕ
 witness_text w = access_word w.access ++ (codes " " ++ (quoted (path_text w.path.now) ++ (codes " fs " ++ (w.fs ++ (caller_text w.caller ++ (owner_text w.attr ++ (codes " grant " ++ decimal w.grant)))))))
 
--- a line behind this word, where there is a witness
+-- as a line behind this word
+abbrev pub witness_line : List ℕ → Witness → List ℕ
+witness_line word w = word ++ (witness_text w ++ codes "\n")
+
+-- such a line, where there is a witness
 abbrev pub found_line : List ℕ → Option Witness → List ℕ
 found_line word None = []
-found_line word (Some w) = word ++ (witness_text w ++ codes "\n")
+found_line word (Some w) = witness_line word w
 
 -- what is gained and what is lost
 abbrev pub comparison : Option Witness → Option Witness → List ℕ

@@ -3,7 +3,7 @@ use Rattle.std.specs.Prelude.{◌≡◌, ℕ, Option, Some, None, IfSome, List, 
 use Rattle.policy_analysis.specs.declared.compare_by.Change.{Change}
 use Rattle.policy_analysis.specs.declared.witness.Witness.{Witness}
 use Rattle.texts.specs.Changes.{change_lines, change_value}
-use Rattle.texts.specs.Comparing.{comparison, witness_text}
+use Rattle.texts.specs.Comparing.{comparison, witness_line}
 use Rattle.texts.specs.Lines.{IsReported, TellTheSame}
 use Rattle.texts.specs.Values.{json_line}
 use Rattle.texts.specs.declared.mds_change.Networks.{Networks}
@@ -12,7 +12,7 @@ use Rattle.texts.specs.declared.shape.Shape.{Shape}
 use Rattle.texts.specs.declared.shape.Shape.TheVariants.{Lines, Objects}
 
 abbrev pub mds_line : List ℕ → Witness → List ℕ
-mds_line word w = word ++ (codes ": " ++ (witness_text w ++ codes "\n"))
+mds_line word w = word ++ witness_line (codes ": ") w
 
 -- behind a word
 abbrev pub witness_in : Shape → List ℕ → Witness → List ℕ

@@ -1,6 +1,6 @@
 //! The lines that say what one list of grants allows and another denies.
 ghost use Rattle.std.specs.Prelude.{◌≡◌, ◌++◌, IfOk, OnOk, map};
-ghost use Rattle.texts.specs.Comparing.{comparison, found_line, witness_text};
+ghost use Rattle.texts.specs.Comparing.{comparison, found_line, witness_line, witness_text};
 
 use crate::line_text::{Text, print_texts};
 use crate::mds_asked::MdsAccess;
@@ -35,9 +35,20 @@ pub(crate) fn print_found(
 ) -> Result<(), AllocError>
     ensures { OnOk result (text.new.items ≡ text.old.items ++ found_line word.now found.now) }
 {
-    let Some(witness) = found else {
-        return Ok(());
-    };
+    match found {
+        Some(witness) => print_witness_line(text, word, witness),
+        None => Ok(()),
+    }
+}
+
+/// Appends a line behind this word: the question of a witness, and the number of its grant.
+pub(crate) fn print_witness_line(
+    text: &mut Vec<u8>,
+    word: &str,
+    witness: &Witness<'_>,
+) -> Result<(), AllocError>
+    ensures { OnOk result (text.new.items ≡ text.old.items ++ witness_line word.now witness.now) }
+{
     print_str(text, word)?;
     print_witness(text, witness)?;
     print_str(text, "\n")

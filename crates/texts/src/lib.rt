@@ -52,7 +52,7 @@ pub use lint_text::{print_finding, print_odd, print_refusal};
 pub use mds_answer::{MdsSaid, failures_piece, grant_piece, mds_object, mds_word};
 pub use mds_asked::MdsAccess;
 pub use mds_change::{Networks, mds_changes};
-pub use mds_text::{mds_lines, mds_outcome, print_mds_failures, print_mds_reason};
+pub use mds_text::{mds_lines, mds_outcome, print_mds_failures, print_mds_reason, print_others};
 pub use part_text::{print_bytes, print_groups, print_mode};
 pub use quoting::{print_quoted, print_quoted_path};
 pub use shape::Shape;

@@ -1,12 +1,12 @@
 //! The lines and objects that say what one list of grants allows and another denies by the rules of a release.
 ghost use Rattle.std.specs.Prelude.{◌≡◌, ◌++◌, IfOk, OnOk};
-ghost use Rattle.texts.specs.MdsChanges.{mds_change_in, mds_changes, mds_line, networks_text, no_change_in};
+ghost use Rattle.texts.specs.MdsChanges.{mds_change_in, mds_changes, networks_text, no_change_in};
 
 use crate::compare_object::{change_objects, print_changed};
-use crate::compare_text::{comparison_lines, print_witness};
+use crate::compare_text::{comparison_lines, print_witness_line};
 use crate::shape::Shape;
 use capbits::print_str;
-use policy_analysis::{Change, Witness};
+use policy_analysis::Change;
 use std::alloc::{AllocError, Global};
 
 /// In this shape what was gained and what was lost, or that there is none; and at the end, where both lists have networks and no address is told, that
@@ -77,16 +77,10 @@ fn print_mds_change(
     };
     let word = if change.by_address { by_address } else { plain };
     match shape {
-        Shape::Lines => print_mds_line(lines, word, &change.witness),
+        Shape::Lines => {
+            print_str(lines, word)?;
+            print_witness_line(lines, ": ", &change.witness)
+        }
         Shape::Objects => print_changed(lines, word, &change.witness),
     }
-}
-
-fn print_mds_line(lines: &mut Vec<u8>, word: &str, witness: &Witness<'_>) -> Result<(), AllocError>
-    ensures { OnOk result (lines.new.items ≡ lines.old.items ++ mds_line word.now witness.now) }
-{
-    print_str(lines, word)?;
-    print_str(lines, ": ")?;
-    print_witness(lines, witness)?;
-    Ok(lines.push(b'\n')?)
 }

@@ -119,11 +119,7 @@ pub(crate) fn print_refused(text: &mut Vec<u8>, refused: Option<usize>) -> Resul
 
 /// Appends behind this front a line for each answer that releases give otherwise, with the releases that give it and the reason. `AllocError`
 /// where no memory is left for it; some of it may stand in the text then.
-pub(crate) fn print_others(
-    text: &mut Vec<u8>,
-    front: &[u8],
-    others: &Others,
-) -> Result<(), AllocError>
+pub fn print_others(text: &mut Vec<u8>, front: &[u8], others: &Others) -> Result<(), AllocError>
     ensures { OnOk result (text.new.items ≡ text.old.items ++ others_lines front.now others.now) }
 {
     let alloc = *text.allocator();
