@@ -1,8 +1,8 @@
 //! Why the program did not do what it was asked for.
 
-use capscript::ServeFault;
 use capspec::{SpecFault, SpecFaultKind};
 use capstep::stop::Stop;
+use cli::ServeFault;
 use queries::QuestionFault;
 use std::alloc::{AllocError, AllocFailed};
 use texts::ScriptFault;

@@ -1,4 +1,1 @@
 pub mod Histories
-mod JobLists
-mod OfClients
-pub mod Plans

@@ -1,3 +1,1 @@
-pub mod Jobs
-pub mod ServeFaults
 pub mod Transcript

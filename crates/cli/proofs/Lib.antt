@@ -1,3 +1,6 @@
 mod Done
+mod JobLists
 mod NewPasses
+mod OfClients
+mod Plans
 mod Writing

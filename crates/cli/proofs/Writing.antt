@@ -7,9 +7,9 @@ use Rattle.texts.specs.ScriptLines.{lines}
 use Rattle.texts.specs.declared.fault.ScriptFault.{ScriptFault}
 use Rattle.texts.specs.declared.fault.ScriptFault.TheVariants as stops
 use Rattle.texts.proofs.KnownBytes.{none_appended}
-use Rattle.capscript.specs.declared.serve_fault.ServeFault.{ServeFault}
-use Rattle.capscript.specs.declared.serve_fault.ServeFault.TheVariants.{Clients, HistoryFull, NoThread, Script}
-use Rattle.capscript.specs.Jobs.{IsFaultAt, StopsAt, Work, no_work}
+use Rattle.cli.specs.declared.serve_fault.ServeFault.{ServeFault}
+use Rattle.cli.specs.declared.serve_fault.ServeFault.TheVariants.{Clients, HistoryFull, NoThread, Script}
+use Rattle.cli.specs.Jobs.{IsFaultAt, StopsAt, Work, no_work}
 use Rattle.cli.specs.Served.{IsUnserved, IsWritten}
 
 -- no line has a fault of a kind that no line can have

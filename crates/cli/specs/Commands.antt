@@ -5,8 +5,8 @@ use Rattle.texts.specs.declared.fault.ScriptFault.{ScriptFault}
 use Rattle.texts.specs.declared.fault.ScriptFault.TheVariants as stops
 use Rattle.texts.specs.ScriptLines.{lines, longest_script}
 use Rattle.capscript.specs.Transcript.{IsTranscript, Ran}
-use Rattle.capscript.specs.declared.serve_fault.ServeFault.{ServeFault}
-use Rattle.capscript.specs.declared.serve_fault.ServeFault.TheVariants.{Script as ServeScript}
+use Rattle.cli.specs.declared.serve_fault.ServeFault.{ServeFault}
+use Rattle.cli.specs.declared.serve_fault.ServeFault.TheVariants.{Script as ServeScript}
 use Rattle.cli.specs.Served.{IsServed, IsWritten}
 use Rattle.cli_queries.specs.declared.command_line.Invocation.{Invocation}
 use Rattle.cli_queries.specs.declared.command_line.Invocation.TheVariants as invocations

@@ -1,7 +1,7 @@
 -- What is hinted at where the line of a fault doesn't tell its cause.
 use Rattle.std.specs.Prelude.{Bool, List, None, Option, Some, codes, false, true, ℕ}
 use Rattle.texts.specs.declared.fault.ScriptFault.TheVariants as stops
-use Rattle.capscript.specs.declared.serve_fault.ServeFault.TheVariants as serve_faults
+use Rattle.cli.specs.declared.serve_fault.ServeFault.TheVariants as serve_faults
 use Rattle.cli.specs.declared.stopping.Fault.{Fault}
 use Rattle.cli.specs.declared.stopping.Fault.TheVariants as faults
 

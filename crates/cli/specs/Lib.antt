@@ -1,3 +1,5 @@
 pub mod Commands
 pub mod Hints
+pub mod Jobs
+pub mod ServeFaults
 pub mod Served

@@ -8,9 +8,9 @@ use Rattle.capstep.specs.State.{State}
 use Rattle.capexplain.specs.Audit.{audit_text}
 use Rattle.capscript.specs.Transcript.{fs_name, root_attr}
 use Rattle.texts.specs.declared.fault.ScriptFault.TheVariants as stops
-use Rattle.capscript.specs.declared.serve_fault.ServeFault.{ServeFault}
-use Rattle.capscript.specs.declared.serve_fault.ServeFault.TheVariants.{Clients, HistoryFull, NoThread, Script}
-use Rattle.capscript.specs.Jobs.{StopsAt, TakesAll, Work, event_count, no_work}
+use Rattle.cli.specs.declared.serve_fault.ServeFault.{ServeFault}
+use Rattle.cli.specs.declared.serve_fault.ServeFault.TheVariants.{Clients, HistoryFull, NoThread, Script}
+use Rattle.cli.specs.Jobs.{StopsAt, TakesAll, Work, event_count, no_work}
 
 -- the line of a row, with its line feed
 abbrev pub row_line : Row → List ℕ

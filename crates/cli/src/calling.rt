@@ -2,10 +2,11 @@
 ghost use Rattle.std.specs.Prelude.{◌≡◌, ◌≤◌, ◌+◌, length, map, reverse, vec_len, IfOk, IfErr, IsTrue};
 ghost use Rattle.std.specs.List.{sum_by};
 ghost use Rattle.capserver.specs.Passes.{AllNew};
-ghost use Rattle.capscript.specs.Jobs.{event_count, work_of};
+ghost use Rattle.cli.specs.Jobs.{event_count, work_of};
 ghost use Rattle.cli.specs.Served.{IsMissing};
 
-use capscript::{Job, Plan, ServeFault};
+use crate::plan::{Job, Plan};
+use crate::serve_fault::ServeFault;
 use capserver::{CapServer, Gate, Pass};
 use capstep::Event;
 use snapshot::Server;

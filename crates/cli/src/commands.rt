@@ -5,7 +5,7 @@ ghost use Rattle.texts.specs.declared.fault.ScriptFault.{ScriptFault as AScriptF
 ghost use Rattle.texts.specs.ScriptLines.{lines, longest_script};
 ghost use Rattle.capscript.specs.Transcript.{IsTranscript};
 ghost use Rattle.texts.specs.Watched.{has_blocked, has_ended, has_failed, inner_of};
-ghost use Rattle.capscript.specs.declared.serve_fault.ServeFault.{ServeFault as AServeFault};
+ghost use Rattle.cli.specs.declared.serve_fault.ServeFault.{ServeFault as AServeFault};
 ghost use Rattle.cli.specs.Served.{IsServed};
 ghost use Rattle.cli.specs.declared.stopping.Fault.{Fault as AFault};
 ghost use Rattle.cli.specs.declared.stopping.Fault.TheVariants as faults;
@@ -13,9 +13,10 @@ ghost use Rattle.cli.specs.Commands.{Answers, RunStops, ServeStops, Stops, WasDo
 ghost use Rattle.cli_queries.specs.FileSystems.{KnowsNames, Notes};
 ghost use Rattle.cli.specs.Hints.{hint_of, hint_unread};
 
+use crate::serve_fault::ServeFault;
 use crate::serving::serve;
 use crate::stopping::Fault;
-use capscript::{ServeFault, run};
+use capscript::run;
 use cli_queries::{
     ComparedBy, DENIED, DONE, FAILED, FOUND, Invocation, USAGE, audit, compare_texts, explain,
     gather, grants, keyring_file, lint, log, note, read_words, report, show, who,

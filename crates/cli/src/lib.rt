@@ -9,9 +9,13 @@
 mod calling;
 mod commands;
 mod history_text;
+mod plan;
+mod serve_fault;
 mod serving;
 mod stopping;
 
 pub use commands::{carry_out, dispatch};
+pub use plan::{Job, MAX_CLIENTS, Plan, read_plan};
+pub use serve_fault::ServeFault;
 pub use serving::{serve, serve_plan};
 pub use stopping::Fault;

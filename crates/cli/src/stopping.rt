@@ -1,6 +1,6 @@
 //! Why a command stopped before its end.
 
-use capscript::ServeFault;
+use crate::serve_fault::ServeFault;
 use cli_queries::AnswerFault;
 use texts::ScriptFault;
 

@@ -1,6 +1,6 @@
 use Rattle.std.proofs.Common.{ap, ◌∙◌, arith, length}
 use Rattle.std.specs.List.{sum_by}
-use Rattle.capscript.specs.Jobs.{job_events, work_of}
+use Rattle.cli.specs.Jobs.{job_events, work_of}
 use Rattle.cli.proofs.NewPasses.{first_called_none, most_called, others_called_none}
 use Rattle.cli.proofs.calling.call_all.Goals as goal
 

@@ -1,8 +1,8 @@
 use Rattle.std.proofs.Common.{ap, ◌∙◌}
 use Rattle.texts.specs.ScriptLines.{lines}
-use Rattle.capscript.specs.Jobs.{work_of}
+use Rattle.cli.specs.Jobs.{work_of}
 use Rattle.cli.specs.Served.{IsUnserved, history_lines}
-use Rattle.capscript.proofs.Plans.{handed_on}
+use Rattle.cli.proofs.Plans.{handed_on}
 use Rattle.cli.proofs.Writing.{stopped_unserved}
 use Rattle.cli.proofs.serving.serve_text.Goals as goal
 

@@ -31,8 +31,8 @@ use Rattle.capexplain.specs.Events.Line.{Faulty, Grants, Names, Nothing, Says}
 use Rattle.texts.specs.ScriptLines.{is_skipped, longest_line}
 use Rattle.capexplain.specs.Values.{bytes_in, client_in, groups_in, ino_in, mode_in, number_below, number_in, only_client, open_mode_in, part_in, seq_in}
 use Rattle.capexplain.specs.Words.{six_parts, spaced, words}
-use Rattle.capscript.specs.Jobs.{begins_with, first_of, sort_of}
-use Rattle.capscript.specs.Jobs.Sort.{Nobodys, Plain}
+use Rattle.cli.specs.Jobs.{begins_with, first_of, sort_of}
+use Rattle.cli.specs.Jobs.Sort.{Nobodys, Plain}
 
 abbrev Words : Type 0
 Words = List (List ℕ)

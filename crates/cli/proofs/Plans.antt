@@ -2,8 +2,8 @@
 use Rattle.std.proofs.Common.{◌≡◌, ℕ, ◌+◌, ◌≤◌, ◌<◌, List, ◌∷◌, length, sym, subst, arith, inl, inr}
 use Rattle.std.specs.Prelude.{Err, IfErr, IsErrAnd, Ok, Result}
 use Rattle.texts.specs.ScriptLines.{lines}
-use Rattle.capscript.specs.declared.serve_fault.ServeFault.{ServeFault}
-use Rattle.capscript.specs.Jobs.{IsFaultAt, StopsAt, Takes, TakesAll, Work, no_work}
+use Rattle.cli.specs.declared.serve_fault.ServeFault.{ServeFault}
+use Rattle.cli.specs.Jobs.{IsFaultAt, StopsAt, Takes, TakesAll, Work, no_work}
 
 -- what is known when so many lines were taken: what the lines that are left give, all lines give
 pub record SoFar (now : Work) (script rest : List ℕ) (number : ℕ) : Type 0 where

@@ -1,7 +1,7 @@
 use Rattle.std.proofs.Common.{◌≤◌, length, vec_len}
-use Rattle.capscript.specs.Jobs.{work_of}
-use Rattle.capscript.proofs.Plans.{SoFar}
-use Rattle.capscript.proofs.plan.read_plan.Given as goal
+use Rattle.cli.specs.Jobs.{work_of}
+use Rattle.cli.proofs.Plans.{SoFar}
+use Rattle.cli.proofs.plan.read_plan.Given as goal
 
 abbrev pub invariant-loop-text : goal.invariant-loop-text
 invariant-loop-text l = record {

@@ -3,10 +3,10 @@ ghost use Rattle.std.specs.Prelude.{◌≡◌, ◌==◌, ◌≤◌, ◌⊎◌, [
 ghost use Rattle.std.specs.List.{position};
 ghost use Rattle.texts.specs.ScriptLines.{lines, longest_script};
 ghost use Rattle.texts.specs.declared.fault.ScriptFault.TheVariants as stops;
-ghost use Rattle.capscript.specs.declared.serve_fault.ServeFault.TheVariants as faults;
-ghost use Rattle.capscript.specs.Jobs.{IsFaultAt, IsFaultBy, StopsAt, Takes, TakesAll, TakesEvent, calls_by, calls_of, first_word, is_known, no_work, sort_of};
-ghost use Rattle.capscript.specs.Jobs.{with_event, work_of};
-ghost use Rattle.capscript.specs.Jobs.Sort.{Plain};
+ghost use Rattle.cli.specs.declared.serve_fault.ServeFault.TheVariants as faults;
+ghost use Rattle.cli.specs.Jobs.{IsFaultAt, IsFaultBy, StopsAt, Takes, TakesAll, TakesEvent, calls_by, calls_of, first_word, is_known, no_work, sort_of};
+ghost use Rattle.cli.specs.Jobs.{with_event, work_of};
+ghost use Rattle.cli.specs.Jobs.Sort.{Plain};
 
 use crate::serve_fault::ServeFault;
 use capbits::ClientId;

@@ -7,8 +7,8 @@ use Rattle.std.proofs.lemmas.Bool.{ltb-false}
 use Rattle.lockmachine.proofs.Positions.{at_position}
 use Rattle.capbits.specs.declared.ids.ClientId.{ClientId}
 use Rattle.capstep.specs.declared.event.Event.{Event}
-use Rattle.capscript.specs.declared.plan.Job.{Job}
-use Rattle.capscript.specs.Jobs.{Calls, calls_by, calls_of, is_known, with_event}
+use Rattle.cli.specs.declared.plan.Job.{Job}
+use Rattle.cli.specs.Jobs.{Calls, calls_by, calls_of, is_known, with_event}
 
 abbrev pub of : ClientId → Job → Bool
 of client job = job.client.0 == client.0

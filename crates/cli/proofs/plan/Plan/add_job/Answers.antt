@@ -1,8 +1,8 @@
 use Rattle.std.proofs.Common.{List, map, inr, refl, ap, ◌∙◌, arith}
-use Rattle.capscript.specs.declared.plan.Job.{Job}
-use Rattle.capscript.specs.Jobs.{Calls, calls_of}
-use Rattle.capscript.proofs.JobLists.{is_unknown, new_gets_job}
-use Rattle.capscript.proofs.plan.Plan.add_job.Goals as goal
+use Rattle.cli.specs.declared.plan.Job.{Job}
+use Rattle.cli.specs.Jobs.{Calls, calls_of}
+use Rattle.cli.proofs.JobLists.{is_unknown, new_gets_job}
+use Rattle.cli.proofs.plan.Plan.add_job.Goals as goal
 
 pub returns-then-len-eq-MAX_CLIENTS-clause-err : goal.returns-then-len-eq-MAX_CLIENTS-clause-err
 returns-then-len-eq-MAX_CLIENTS-clause-err c =

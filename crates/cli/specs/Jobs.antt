@@ -12,10 +12,10 @@ use Rattle.capexplain.specs.Events.{Reads}
 use Rattle.capexplain.specs.Faults.{HasFault}
 use Rattle.texts.specs.ScriptLines.{is_skipped}
 use Rattle.capexplain.specs.Words.{words}
-use Rattle.capscript.specs.declared.serve_fault.ServeFault.{ServeFault}
-use Rattle.capscript.specs.declared.serve_fault.ServeFault.TheVariants.{Clients, HistoryFull, NoThread, Script}
-use Rattle.capscript.specs.declared.plan.Job.{Job}
-use Rattle.capscript.specs.declared.plan.Plan.{Plan}
+use Rattle.cli.specs.declared.serve_fault.ServeFault.{ServeFault}
+use Rattle.cli.specs.declared.serve_fault.ServeFault.TheVariants.{Clients, HistoryFull, NoThread, Script}
+use Rattle.cli.specs.declared.plan.Job.{Job}
+use Rattle.cli.specs.declared.plan.Plan.{Plan}
 
 -- what a client calls, in order
 pub record Calls : Type 0 where

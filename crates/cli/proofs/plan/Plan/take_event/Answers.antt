@@ -1,6 +1,6 @@
 use Rattle.std.proofs.Common.{sym, ◌∙◌}
-use Rattle.capscript.proofs.OfClients.{has_client}
-use Rattle.capscript.proofs.plan.Plan.take_event.Goals as goal
+use Rattle.cli.proofs.OfClients.{has_client}
+use Rattle.cli.proofs.plan.Plan.take_event.Goals as goal
 
 pub unreachable-requires : goal.unreachable-requires
 unreachable-requires c =

@@ -1,8 +1,8 @@
 use Rattle.std.proofs.Common.{arith}
 use Rattle.texts.specs.ScriptLines.{lines}
-use Rattle.capscript.specs.Jobs.{StopsAt, no_work, work_of}
-use Rattle.capscript.proofs.Plans.{handed_on, so_far_more, stopped_at}
-use Rattle.capscript.proofs.plan.read_plan.Goals as goal
+use Rattle.cli.specs.Jobs.{StopsAt, no_work, work_of}
+use Rattle.cli.proofs.Plans.{handed_on, so_far_more, stopped_at}
+use Rattle.cli.proofs.plan.read_plan.Goals as goal
 
 pub overflow_add-number : goal.overflow_add-number
 overflow_add-number c = omega (arith, c.loop-text.invariant.so_far.left, c.requires.short)

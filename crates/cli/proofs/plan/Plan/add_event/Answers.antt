@@ -1,9 +1,9 @@
 use Rattle.std.proofs.Common.{◌≡◌, List, get_or, ap, rules}
 use Rattle.capstep.specs.declared.event.Event.{Event}
-use Rattle.capscript.specs.declared.plan.Job.{Job}
-use Rattle.capscript.specs.Jobs.{Calls, calls_by}
-use Rattle.capscript.proofs.JobLists.{known_gets_event}
-use Rattle.capscript.proofs.plan.Plan.add_event.Goals as goal
+use Rattle.cli.specs.declared.plan.Job.{Job}
+use Rattle.cli.specs.Jobs.{Calls, calls_by}
+use Rattle.cli.proofs.JobLists.{known_gets_event}
+use Rattle.cli.proofs.plan.Plan.add_event.Goals as goal
 
 pub returns-clause-ok : goal.returns-clause-ok
 returns-clause-ok c =

@@ -1,7 +1,7 @@
 //! Why a script was not served.
 ghost use Rattle.std.specs.Prelude.{◌≡◌};
 ghost use Rattle.texts.specs.declared.fault.ScriptFault.TheVariants as stops;
-ghost use Rattle.capscript.specs.declared.serve_fault.ServeFault.TheVariants as faults;
+ghost use Rattle.cli.specs.declared.serve_fault.ServeFault.TheVariants as faults;
 
 use capstep::stop::Stop;
 use std::alloc::{AllocError, AllocFailed};
@@ -39,7 +39,7 @@ impl ServeFault {
 
 impl From<ScriptFault> for ServeFault {
     ghost use Rattle.std.specs.Prelude.{◌≡◌};
-    ghost use Rattle.capscript.specs.declared.serve_fault.ServeFault.TheVariants as faults;
+    ghost use Rattle.cli.specs.declared.serve_fault.ServeFault.TheVariants as faults;
 
     ghost from_gives = { λ stopped fault. fault ≡ faults.Script stopped };
 
@@ -50,7 +50,7 @@ impl From<ScriptFault> for ServeFault {
 
 impl From<Stop> for ServeFault {
     ghost use Rattle.std.specs.Prelude.{◌≡◌};
-    ghost use Rattle.capscript.specs.ServeFaults.{fault_of};
+    ghost use Rattle.cli.specs.ServeFaults.{fault_of};
 
     ghost from_gives = { λ stop fault. fault ≡ fault_of stop };
 
@@ -65,7 +65,7 @@ impl From<Stop> for ServeFault {
 impl From<AllocError> for ServeFault {
     ghost use Rattle.std.specs.Prelude.{◌≡◌};
     ghost use Rattle.texts.specs.declared.fault.ScriptFault.TheVariants as stops;
-    ghost use Rattle.capscript.specs.declared.serve_fault.ServeFault.TheVariants as faults;
+    ghost use Rattle.cli.specs.declared.serve_fault.ServeFault.TheVariants as faults;
 
     ghost from_gives = { λ _ fault. fault ≡ faults.Script stops.NoMemory };
 
@@ -77,7 +77,7 @@ impl From<AllocError> for ServeFault {
 impl<T: Drop> From<AllocFailed<T>> for ServeFault {
     ghost use Rattle.std.specs.Prelude.{◌≡◌};
     ghost use Rattle.texts.specs.declared.fault.ScriptFault.TheVariants as stops;
-    ghost use Rattle.capscript.specs.declared.serve_fault.ServeFault.TheVariants as faults;
+    ghost use Rattle.cli.specs.declared.serve_fault.ServeFault.TheVariants as faults;
 
     ghost from_gives = { λ _ fault. fault ≡ faults.Script stops.NoMemory };
 
