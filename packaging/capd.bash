@@ -22,7 +22,11 @@ _capd() {
     elif [[ $before == --keyring || $before == --auth || $before == --sessions || $before == --tree ]]; then
         mapfile -t COMPREPLY < <(compgen -f -- "$word")
     elif [[ $before == --access || $before == who ]]; then
-        mapfile -t COMPREPLY < <(compgen -W 'read write vxattr snapshot chmod' -- "$word")
+        local accesses='read write vxattr snapshot chmod chown: chgrp:'
+        [[ ${COMP_WORDS[1]} == explain && " ${COMP_WORDS[*]} " == *' --mds '* ]] && accesses+=' readwrite mask:'
+        mapfile -t COMPREPLY < <(compgen -W "$accesses" -- "$word")
+        # The numbers stand right behind the colon.
+        [[ ${COMPREPLY[*]} == *: ]] && compopt -o nospace
     elif [[ ${COMP_WORDS[1]} == audit ]]; then
         mapfile -t COMPREPLY < <(compgen -W '--auth --sessions --tree --rule --mds --json --fs --help' -- "$word")
     elif [[ ${COMP_WORDS[1]} == who ]]; then

@@ -167,9 +167,15 @@ def shows_page(page):
     return "capd compare OLD NEW" in told(["man", "-l", page], stderr=subprocess.DEVNULL, env={**os.environ, "MANWIDTH": "120"})
 
 
+def completed(script, *words):
+    given = " ".join(words)
+    asked = f'source "{script}"; COMP_WORDS=({given}); COMP_CWORD={len(words) - 1}; _capd; echo "${{COMPREPLY[*]}}"'
+    return told(["bash", "-c", asked]).split()
+
+
 def completes(script):
-    words = f'source "{script}"; COMP_WORDS=(capd co); COMP_CWORD=1; _capd; echo "${{COMPREPLY[*]}}"'
-    return told(["bash", "-c", words]).split() == ["compare"]
+    by_release = completed(script, "capd", "explain", "--mds", "16", "--access", "r")
+    return completed(script, "capd", "co") == ["compare"] and by_release == ["read", "readwrite"]
 
 
 def builds(tree, prefix, room):

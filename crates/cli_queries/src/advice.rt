@@ -59,7 +59,7 @@ fn name_value(alloc: Global, invocation: &Invocation, option: Opt, faults: &mut 
     let Ok(value) = quoted_value(alloc, value_of(invocation, option)) else {
         return;
     };
-    let taken = taken_by(option);
+    let taken = taken_by(invocation, option);
     let _ = write!(faults, "hint: --{option} ");
     let _ = faults.write_all(value.as_slice());
     let _ = writeln!(faults, ": {taken}");
@@ -128,7 +128,7 @@ fn value_or_none(value: &Option<Vec<u8>>) -> &[u8] {
 }
 
 // What the option takes.
-fn taken_by(option: Opt) -> &'static str {
+fn taken_by(invocation: &Invocation, option: Opt) -> &'static str {
     match option {
         Opt::Grants => "a text of grants",
         Opt::Fs => "1 to 64 bytes out of A-Z a-z 0-9 _ . -",
@@ -137,6 +137,8 @@ fn taken_by(option: Opt) -> &'static str {
             "1 to 16 decimal numbers with a comma between them; left out where there is none",
         Opt::Path => "at most 32 names of at most 255 bytes, with / between them",
         Opt::Mode => "1 to 4 octal digits, or the kind of the inode and 4 of them, as 0100640",
+        Opt::Access if matches!(invocation, Invocation::Explain(_)) =>
+            "one of read, write, vxattr, snapshot, chmod, chown:N, chgrp:N; with --mds also readwrite, mask:BITS:UID:GID",
         Opt::Access => "one of read, write, vxattr, snapshot, chmod, chown:N, chgrp:N",
         Opt::Addr =>
             "an IPv4 or an IPv6 address, as 10.0.0.1 or fd00::1, without a port or a length",

@@ -121,9 +121,6 @@ prints
   2.1 mkdir 1 1 a 0755 => ino 2
   2.2 lookup 1 1 a => ino 2";
 
-const ACCESS_HELP: &str =
-    "What is asked for: read, write, vxattr, snapshot, chmod, chown:N or chgrp:N";
-
 const GROUP_HELP: &str = "The gid of the inode's group";
 
 const JSON_HELP: &str = "Prints the whole answer as JSON, an object a line";
@@ -258,7 +255,7 @@ const EXPLAIN_WORDS: [Word; 18] = [
     Word {
         name: Name::Of(Opt::Access),
         value: "WORD",
-        help: ACCESS_HELP,
+        help: "What is asked for: read, write, vxattr, snapshot, chmod, chown:N or chgrp:N; with --mds also readwrite or mask:BITS:UID:GID",
         kind: Kind::Needed,
         needs: None,
         bars: &[],
@@ -427,7 +424,7 @@ const WHO_WORDS: [Word; 10] = [
     Word {
         name: Name::Of(Opt::Access),
         value: "ACCESS",
-        help: ACCESS_HELP,
+        help: "What is asked for: read, write, vxattr, snapshot, chmod, chown:N or chgrp:N",
         kind: Kind::Bare,
         needs: None,
         bars: &[],
