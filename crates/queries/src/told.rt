@@ -1,10 +1,11 @@
 //! What is told of a check in a log.
 ghost use Rattle.std.specs.Prelude.{◌≡◌, ◌++◌, [], ◌∷◌, IfOk, OnOk, codes};
+ghost use Rattle.serde_json.specs.Data.{string};
 ghost use Rattle.texts.specs.Pieces.{piece_value};
 ghost use Rattle.texts.specs.Quoting.{quoted};
 ghost use Rattle.texts.specs.Values.{json_line};
 ghost use Rattle.queries.specs.Reported.{item_text, of_line, scope_of, text_of};
-ghost use Rattle.queries.specs.Told.{any_grant, any_word, behind, is_judgement, lines_of, object_value, text_in, told_of};
+ghost use Rattle.queries.specs.Told.{any_grant, any_word, behind, is_judgement, lines_of, object_value, pathless_value, text_in, told_of};
 
 use crate::any_path::{AnyPath, print_any_path};
 use crate::kinds::print_kind;
@@ -178,6 +179,7 @@ fn print_object(reported: &mut Vec<u8>, number: u64, told: Told<'_>) -> Result<(
     ensures { OnOk result (reported.new.items ≡ reported.old.items ++ json_line (object_value number (told_of told.entry))) }
 {
     let alloc = *reported.allocator();
+    let line = ("line", Piece::Number(number));
     match told {
         Told::Answered(question, grants) => {
             let object = question.remarked_object(alloc, Some(number), grants)?;
@@ -187,61 +189,62 @@ fn print_object(reported: &mut Vec<u8>, number: u64, told: Told<'_>) -> Result<(
             let object = asking.mds_object(alloc, Some(number), answer)?;
             reported.extend_from_slice(object.as_slice())
         }
-        Told::Pathless(caller, access, any) => print_pieces(
-            reported,
-            &[
-                ("line", Piece::Number(number)),
-                ("access", Piece::Access(access)),
-                ("path", Piece::Null),
-                ("uid", Piece::Number(u64::from(caller.uid))),
-                ("gid", Piece::Number(u64::from(caller.gid))),
-                ("groups", Piece::Numbers(caller.groups.as_slice())),
-                ("verdict", Piece::Word(any_word(any))),
-                ("grant", any_grant(any)),
-            ],
-        ),
-        Told::Formless => print_pieces(
-            reported,
-            &[
-                ("line", Piece::Number(number)),
-                ("fault", Piece::Word("form")),
-            ],
-        ),
-        Told::Unknown(mask) => print_pieces(
-            reported,
-            &[
-                ("line", Piece::Number(number)),
-                ("fault", Piece::Word("mask")),
-                ("mask", Piece::Bytes(mask)),
-            ],
-        ),
-        Told::Refused(refused) => print_pieces(
-            reported,
-            &[
-                ("line", Piece::Number(number)),
-                ("fault", Piece::Word("grants")),
-                ("kind", Piece::Word(fault_word(refused.kind))),
-                ("at", Piece::Number(refused.at as u64)),
-            ],
-        ),
-        Told::Bad(option) => print_pieces(
-            reported,
-            &[
-                ("line", Piece::Number(number)),
-                ("fault", Piece::Word("value")),
-                ("option", Piece::Word(option.name())),
-            ],
-        ),
-        Told::NotRead(found) => print_pieces(
-            reported,
-            &[
-                ("line", Piece::Number(number)),
-                ("fault", Piece::Word("not-read")),
-                ("mds", Piece::Word(found.release.version())),
-                ("at", Piece::Number(found.at as u64)),
-            ],
-        ),
+        Told::Pathless(caller, access, any) => {
+            print_pathless(reported, number, caller, access, any)
+        }
+        Told::Formless => print_pieces(reported, &[line, fault("form")]),
+        Told::Unknown(mask) => {
+            let mask = ("mask", Piece::Bytes(mask));
+            print_pieces(reported, &[line, fault("mask"), mask])
+        }
+        Told::Refused(refused) => {
+            let kind = ("kind", Piece::Word(fault_word(refused.kind)));
+            let at = ("at", Piece::Number(refused.at as u64));
+            print_pieces(reported, &[line, fault("grants"), kind, at])
+        }
+        Told::Bad(option) => {
+            let option = ("option", Piece::Word(option.name()));
+            print_pieces(reported, &[line, fault("value"), option])
+        }
+        Told::NotRead(found) => {
+            let mds = ("mds", Piece::Word(found.release.version()));
+            let at = ("at", Piece::Number(found.at as u64));
+            print_pieces(reported, &[line, fault("not-read"), mds, at])
+        }
     }
+}
+
+// Who asks, and what is said at any path.
+fn print_pathless(
+    reported: &mut Vec<u8>,
+    number: u64,
+    caller: &Caller,
+    access: MdsAccess,
+    any: AnyPath,
+) -> Result<(), AllocError>
+    ensures { OnOk result (reported.new.items ≡ reported.old.items ++ json_line (pathless_value number caller.now access any)) }
+{
+    print_pieces(
+        reported,
+        &[
+            ("line", Piece::Number(number)),
+            ("access", Piece::Access(access)),
+            ("path", Piece::Null),
+            ("uid", Piece::Number(u64::from(caller.uid))),
+            ("gid", Piece::Number(u64::from(caller.gid))),
+            ("groups", Piece::Numbers(caller.groups.as_slice())),
+            ("verdict", Piece::Word(any_word(any))),
+            ("grant", any_grant(any)),
+        ],
+    )
+}
+
+// Why a check can't be judged.
+fn fault(word: &'static str) -> (&'static str, Piece<'static>)
+    ensures key { result.0.now ≡ codes "fault" }
+    ensures value { piece_value result.1 ≡ string word.now }
+{
+    ("fault", Piece::Word(word))
 }
 
 pub(crate) fn any_word(any: AnyPath) -> &'static str
