@@ -119,7 +119,7 @@ fn call_lines<L: Server, T: AllocGlobal + Wait>(
     };
     for line in lines {
         let (_, event) = event_of(rt.alloc(), line)?;
-        is_called(rt, server, pass, event)?;
+        call_event(rt, server, pass, event)?;
     }
     Ok(())
 }
@@ -140,7 +140,7 @@ fn call_while<L: Server, T: Wait>(
         }
         let event = mode_change(inode_at(turn, asking.inodes), turn);
         let guard = enter(rt, lock, asking.way);
-        let called = is_called(rt, server, &mut pass, event);
+        let called = call_event(rt, server, &mut pass, event);
         unlock(guard);
         called?;
         turn = turn.wrapping_add(1);
@@ -148,8 +148,8 @@ fn call_while<L: Server, T: Wait>(
     Ok(0)
 }
 
-// Whether an event was made. What was answered does not matter.
-fn is_called<L: Server, T: Wait>(
+// Makes an event. What was answered does not matter.
+fn call_event<L: Server, T: Wait>(
     rt: &T,
     server: &CapServer<NoGate, L>,
     pass: &mut Pass<L>,

@@ -35,7 +35,7 @@ pub(crate) enum Play {
 
 /// A job.
 #[derive(Clone, Copy)]
-pub(crate) enum Kind {
+pub(crate) enum JobKind {
     /// Clients talk to a core.
     Played(Play),
     /// A whole script is run.
@@ -49,14 +49,14 @@ pub(crate) enum Kind {
 /// Does a job, and returns the digest of all that was answered.
 pub(crate) fn digest_of(
     rt: &(impl AllocGlobal + Threads + Wait + Sync),
-    job: Kind,
+    job: JobKind,
     amount: Amount,
 ) -> Result<u64, Fault> {
     match job {
-        Kind::Played(play) => play_rounds(rt.alloc(), play, amount),
-        Kind::Script => run_script(rt.alloc(), amount),
-        Kind::Questions => ask_all(rt.alloc(), amount),
-        Kind::Serve => serve_script(rt, amount),
+        JobKind::Played(play) => play_rounds(rt.alloc(), play, amount),
+        JobKind::Script => run_script(rt.alloc(), amount),
+        JobKind::Questions => ask_all(rt.alloc(), amount),
+        JobKind::Serve => serve_script(rt, amount),
     }
 }
 

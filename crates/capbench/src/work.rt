@@ -2,7 +2,7 @@
 
 use crate::explaining::Way;
 use crate::fault::Fault;
-use crate::jobs::{Kind, Play};
+use crate::jobs::{JobKind, Play};
 use capbits::read_u32;
 
 /// Work of one of two kinds.
@@ -11,7 +11,7 @@ pub(crate) enum Work {
     /// All answers are summed up.
     Piece(Piece),
     /// There is a digest of all answers. The numbers say how much is done, and the seed that it is made from.
-    Job(Kind),
+    Job(JobKind),
 }
 
 /// A piece of work, with the text that is read.
@@ -47,12 +47,12 @@ const NAMED: &[(&[u8], usize, Work)] = &[
     (b"publish", 1, Work::Piece(Piece::Publish)),
     (b"explain", 3, Work::Piece(Piece::Explain(Way::Beside))),
     (b"locked", 3, Work::Piece(Piece::Explain(Way::Locked))),
-    (b"tenants", 2, Work::Job(Kind::Played(Play::Tenants))),
-    (b"shared", 2, Work::Job(Kind::Played(Play::Shared))),
-    (b"moves", 2, Work::Job(Kind::Played(Play::Moves))),
-    (b"script", 2, Work::Job(Kind::Script)),
-    (b"questions", 2, Work::Job(Kind::Questions)),
-    (b"serve", 2, Work::Job(Kind::Serve)),
+    (b"tenants", 2, Work::Job(JobKind::Played(Play::Tenants))),
+    (b"shared", 2, Work::Job(JobKind::Played(Play::Shared))),
+    (b"moves", 2, Work::Job(JobKind::Played(Play::Moves))),
+    (b"script", 2, Work::Job(JobKind::Script)),
+    (b"questions", 2, Work::Job(JobKind::Questions)),
+    (b"serve", 2, Work::Job(JobKind::Serve)),
 ];
 
 /// What the words of a command line ask for.

@@ -12,7 +12,7 @@ use Rattle.queries.specs.Counts.{Count, counted_in, counts, ended, noted}
 use Rattle.queries.specs.Kinds.{kind_in, kind_line, kind_value}
 use Rattle.queries.specs.LogPieces.{counted_after, end_text, told_now}
 use Rattle.queries.specs.Reported.{Item, Scope, counts_in, item_text, leaves_out, log_text, text_of, text_told}
-use Rattle.queries.specs.Told.{Told, is_leave, passed_in, text_in}
+use Rattle.queries.specs.Told.{Told, allows, passed_in, text_in}
 use Rattle.queries.proofs.Counted.{all_counted}
 use Rattle.queries.proofs.TextLines.{Whole, both_whole, ended_in_both, fed_whole, none_whole}
 
@@ -24,7 +24,7 @@ kind_whole Objects t = fed_whole (compact_text (kind_value t))
 
 item_whole : (scope : Scope) (item : Item) → scope.counts ≡ true → Whole (text_told scope item)
 item_whole scope item counting =
-    cond_both (leaves_out scope && is_leave item.1) [] (item_text scope item) Whole (λ left. none_whole)
+    cond_both (leaves_out scope && allows item.1) [] (item_text scope item) Whole (λ left. none_whole)
     (λ told. subst Whole (sym (cond-true scope.counts (kind_in scope.shape item.1) (text_in scope.shape item.0 item.1) counting)) (kind_whole scope.shape item.1))
 
 all_whole : (scope : Scope) (items : List Item) → scope.counts ≡ true → Whole (text_of scope items)

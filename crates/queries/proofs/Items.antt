@@ -74,7 +74,7 @@ use Rattle.queries.specs.Masks.{accesses_of}
 use Rattle.queries.specs.Reported.{AreReported, AreValues, IsAnswered, IsAnsweredBy, IsFaulty, IsFaultyBy, IsReportOf, IsReported, IsUnreadBy, Item, Says, SaysBehind, SaysBy, SaysIf}
 use Rattle.queries.specs.Reported.{Scope, State, TellsFault, answer_there, answer_to, asking_all, counts_in, leaves_out, of_line, path_or_root, text_of, with_access}
 use Rattle.queries.specs.Kinds.{kind_in}
-use Rattle.queries.specs.Told.{Told, is_leave, lines_of, passed_in, passed_line}
+use Rattle.queries.specs.Told.{Told, allows, lines_of, passed_in, passed_line}
 use Rattle.queries.specs.Reported.AreReported.{no_more, one_more}
 use Rattle.queries.specs.Reported.IsReported.{checked, kept, passed_over}
 use Rattle.queries.proofs.LogLines.{few_passed, next_number}
@@ -460,7 +460,7 @@ fewer : (scope : Scope) (items : List Item) → scope.counts ≡ false → All H
 fewer scope [] plain all = ([], All-nil HasLines, refl)
 fewer scope (item ∷ items) plain all =
     let rest = fewer scope items plain (All-tail HasLines item items all) in
-    let left : Bool = leaves_out scope && is_leave item.1 in
+    let left : Bool = leaves_out scope && allows item.1 in
     let told = unless left scope.shape item (text_of scope items) rest.0 (All-head HasLines item items all) rest.1 rest.2 in (
       told.0,
       told.1,

@@ -9,19 +9,19 @@ use Rattle.std.proofs.lemmas.List.Folds.{list_all-append}
 use Rattle.capgrant.specs.declared.access.Access.{Access}
 use Rattle.queries.specs.declared.fault.QuestionFault.{QuestionFault}
 use Rattle.queries.specs.Reported.{Item, Scope, TellsFault, item_text, leaves_out, of_line, text_of}
-use Rattle.queries.specs.Told.{Told, is_judgement, is_leave}
+use Rattle.queries.specs.Told.{Told, allows, is_judgement}
 use Rattle.queries.proofs.LogLines.{told_more}
 
 -- ---- its text
 
-pub left_out : (scope : Scope) (number : ℕ) (t : Told) (text : List ℕ) → (leaves_out scope && is_leave t) ≡ true → text ≡ text ++ text_of scope (of_line number (t ∷ []))
-left_out scope number t text is = sym (append-nil text) ∙ ap (λ (r : List ℕ). text ++ (r ++ [])) (sym (cond-true (leaves_out scope && is_leave t) [] (item_text scope (number, t)) is))
+pub left_out : (scope : Scope) (number : ℕ) (t : Told) (text : List ℕ) → (leaves_out scope && allows t) ≡ true → text ≡ text ++ text_of scope (of_line number (t ∷ []))
+left_out scope number t text is = sym (append-nil text) ∙ ap (λ (r : List ℕ). text ++ (r ++ [])) (sym (cond-true (leaves_out scope && allows t) [] (item_text scope (number, t)) is))
 
-pub told : (scope : Scope) (number : ℕ) (t : Told) (text new : List ℕ) → (leaves_out scope && is_leave t) ≡ false → new ≡ text ++ item_text scope (number, t) → new ≡ text ++ text_of scope (of_line number (t ∷ []))
+pub told : (scope : Scope) (number : ℕ) (t : Told) (text new : List ℕ) → (leaves_out scope && allows t) ≡ false → new ≡ text ++ item_text scope (number, t) → new ≡ text ++ text_of scope (of_line number (t ∷ []))
 told scope number t text new is printed =
     printed
     ∙ ap (λ (r : List ℕ). text ++ r)
-    (sym (append-nil (item_text scope (number, t))) ∙ ap (λ (r : List ℕ). r ++ []) (sym (cond-false (leaves_out scope && is_leave t) [] (item_text scope (number, t)) is)))
+    (sym (append-nil (item_text scope (number, t))) ∙ ap (λ (r : List ℕ). r ++ []) (sym (cond-false (leaves_out scope && allows t) [] (item_text scope (number, t)) is)))
 
 -- ---- one thing alone
 

@@ -20,7 +20,7 @@ use Rattle.texts.specs.ScriptLines.{lines}
 use Rattle.texts.specs.declared.shape.Shape.{Shape}
 use Rattle.queries.specs.Counts.{counted_in, counts, ended}
 use Rattle.queries.specs.Kinds.{kind_in}
-use Rattle.queries.specs.Told.{Told, is_judgement, is_leave, passed_in, text_in}
+use Rattle.queries.specs.Told.{Told, allows, is_judgement, passed_in, text_in}
 use Rattle.queries.specs.Told.Told.{answered, bad, formless, judged_by, not_read, pathless, refused, unknown}
 use Rattle.queries.specs.declared.log_scope.LogScope.{LogScope}
 use Rattle.queries.specs.declared.log_text.LogState.{LogState}
@@ -180,7 +180,7 @@ abbrev pub leaves_out : Scope → Bool
 leaves_out scope = scope.only_denied || scope.counts
 
 abbrev pub text_told : Scope → Item → List ℕ
-text_told scope item = if leaves_out scope && is_leave item.1 then [] else item_text scope item
+text_told scope item = if leaves_out scope && allows item.1 then [] else item_text scope item
 
 abbrev pub text_of : Scope → List Item → List ℕ
 text_of scope items = flat_map (text_told scope) items

@@ -58,11 +58,11 @@ told_of (code.Bad option) = bad option
 told_of (code.NotRead found) = not_read found
 
 -- it says that something is allowed
-abbrev pub is_leave : Told → Bool
-is_leave (answered q grants) = is_allowed (verdict_on q)
-is_leave (judged_by a answer) = mds_allows answer.verdict
-is_leave (pathless caller access any) = is_anywhere any
-is_leave told = false
+abbrev pub allows : Told → Bool
+allows (answered q grants) = is_allowed (verdict_on q)
+allows (judged_by a answer) = mds_allows answer.verdict
+allows (pathless caller access any) = is_anywhere any
+allows told = false
 
 -- it does not hang on where the client is
 abbrev pub is_certain : Verdict → Bool

@@ -42,11 +42,11 @@ pub(crate) enum Told<'a> {
 
 impl Told<'_> {
     ghost use Rattle.std.specs.Prelude.{◌≡◌, ◌&&◌, IfOk};
-    ghost use Rattle.queries.specs.Told.{is_judgement, is_leave, told_of};
+    ghost use Rattle.queries.specs.Told.{allows, is_judgement, told_of};
 
     // Whether it is left out, where what is allowed may be.
     fn is_left_out(&self, alloc: Global, may_be: bool) -> Result<bool, AllocError>
-        ensures { IfOk result (λ left. left ≡ (may_be && is_leave (told_of self.now))) }
+        ensures { IfOk result (λ left. left ≡ (may_be && allows (told_of self.now))) }
     {
         if !may_be {
             return Ok(false);
