@@ -1,8 +1,7 @@
 -- A cluster that was audited, or was not.
-use Rattle.std.proofs.Common.{◌≡◌, ℕ, Bool, List, Option, None, Some, inl, inr, subst, sym, ap, ◌∙◌}
+use Rattle.std.proofs.Common.{◌≡◌, ℕ, Bool, List, Option, Some, inl, inr, subst, sym, ap, ◌∙◌}
 use Rattle.std.specs.Io.KnownBytes.{Appends}
 use Rattle.std.specs.Prelude.{Err, IfErr, IfOk, IfSome, IsErrAnd, IsFalse, IsTrue, Ok, OnOk, Result, if◌then◌else◌}
-use Rattle.ceph_input.specs.Auth.{auth_of}
 use Rattle.ceph_input.specs.Dump.{Dump, tree_of}
 use Rattle.ceph_input.specs.FsNames.{AreFsNames, fs_among}
 use Rattle.cluster_audit.specs.Audited.{AreClients, IsFaultOfClients, IsReport, Roster, clients_of}

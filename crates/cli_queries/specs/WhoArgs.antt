@@ -7,7 +7,6 @@ use Rattle.ceph_input.specs.Auth.{IsFaultOf, Named, auth_of}
 use Rattle.ceph_input.specs.FsNames.{AreFsNames, fs_among}
 use Rattle.queries.specs.declared.attempt.Attempt.{Attempt}
 use Rattle.queries.specs.declared.clients.WhoAnswer.{WhoAnswer}
-use Rattle.queries.specs.declared.fault.QuestionFault.{QuestionFault}
 use Rattle.queries.specs.Attempts.{IsAttempt, IsFaultOfAttempt, wanted_by}
 use Rattle.queries.specs.Clients.{AnswersWho}
 use Rattle.cli_queries.specs.declared.fault.AnswerFault.{AnswerFault}

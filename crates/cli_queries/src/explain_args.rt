@@ -1,6 +1,5 @@
 //! What `explain` is asked, where the text of its grants is, and how it answers.
-ghost use Rattle.std.specs.Prelude.{◌≡◌, ◌⊎◌, ℕ, List, length, OnOk, IfErr, IfSome, IsTrue, IsFalse, MatchResult};
-ghost use Rattle.texts.specs.ScriptLines.{longest_script};
+ghost use Rattle.std.specs.Prelude.{OnOk, IfErr, IsFalse, MatchResult};
 ghost use Rattle.texts.specs.Watched.{has_ended, has_failed, inner_of};
 ghost use Rattle.cli_queries.specs.ExplainArgs.{IsGrantsText, IsListed, IsUnlisted, IsUnread, IsWithoutLineFeed};
 

@@ -1,6 +1,6 @@
 -- The numbers of what releases answer beside this server fit.
 use Rattle.std.proofs.Common.{◌≡◌, ℕ, ◌+◌, ◌<◌, ◌^◌, Bool, Option, Some, None, List, [], ◌∷◌, length, refl, arith}
-use Rattle.std.specs.Prelude.{Result, Ok, Err, position, if◌then◌else◌}
+use Rattle.std.specs.Prelude.{Result, Ok, Err, position}
 use Rattle.std.proofs.lemmas.Bool.{cond_both}
 use Rattle.std.proofs.lemmas.List.Quantifiers.{position-Some}
 use Rattle.capgrant.specs.declared.access.Access.{Access}

@@ -10,7 +10,6 @@ use Rattle.texts.proofs.Linted.{all_lines, begins, one_list}
 use Rattle.texts.proofs.Quoted.{clash, first_byte}
 use Rattle.texts.specs.declared.shape.Shape.{Shape}
 use Rattle.texts.specs.declared.shape.Shape.TheVariants.{Lines, Objects}
-use Rattle.texts.specs.Findings.{found_object}
 use Rattle.texts.specs.Shapes.{nothing_in}
 use Rattle.texts.proofs.JsonLinted.{each_has_one}
 use Rattle.texts.proofs.JsonLinted.{one_list as one_list_of_objects}

@@ -2,7 +2,7 @@
 use Rattle.std.proofs.Common.{◌≡◌, ℕ, ◌+◌, Bool, List, [], ◌∷◌, ◌++◌, refl, sym, ap, subst, ◌∙◌, append_assoc, arith, length-append}
 use Rattle.texts.specs.ScriptLines.{lines}
 use Rattle.queries.specs.Counts.{Count}
-use Rattle.queries.specs.Reported.{AreReported, IsReportOf, Item, Scope, State, log_text, start, text_of}
+use Rattle.queries.specs.Reported.{AreReported, IsReportOf, Item, Scope, State, start, text_of}
 use Rattle.queries.specs.LogPieces.{HasTold, Teller, TellsEnd, TellsLines, TellsPiece, counted_after, told_now}
 use Rattle.queries.proofs.CountedLog.{counted_more, end_of_log}
 use Rattle.queries.proofs.LogLines.{SoFar, alone, one_after_the_other}

@@ -1,5 +1,5 @@
 -- The words for what an MDS is asked for, several accesses at once.
-use Rattle.std.specs.Prelude.{◌≡◌, ℕ, List, codes, Option, Some, None, option_and_then, option_map}
+use Rattle.std.specs.Prelude.{◌≡◌, ℕ, List, codes, Option, Some, option_and_then, option_map}
 use Rattle.capspec.specs.Items.{IsNumber}
 use Rattle.texts.specs.declared.mds_asked.MdsAccess.{MdsAccess}
 use Rattle.texts.specs.declared.mds_asked.MdsAccess.TheVariants.{Mask, One, ReadWrite}

@@ -19,7 +19,7 @@ impl Drop for LineCounts {
 }
 
 impl LineCounts {
-    ghost use Rattle.std.specs.Prelude.{◌≡◌, ◌++◌, [], IfOk, OnOk, fold};
+    ghost use Rattle.std.specs.Prelude.{◌≡◌, ◌++◌, [], OnOk, fold};
     ghost use Rattle.std.specs.List.{flat_map};
     ghost use Rattle.queries.specs.Counts.{counted_in, counts_of, ended, noted};
 

@@ -1,5 +1,5 @@
 //! The values of options that are lists.
-ghost use Rattle.std.specs.Prelude.{◌≡◌, ℕ, List, MatchOption};
+ghost use Rattle.std.specs.Prelude.{ℕ, List, MatchOption};
 ghost use Rattle.queries.specs.Values.{AreGroups};
 
 use capbits::{Groups, read_u32};

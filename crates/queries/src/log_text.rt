@@ -1,5 +1,5 @@
 //! The lines that tell of a log.
-ghost use Rattle.std.specs.Prelude.{◌≡◌, ◌++◌, ◌+◌, ◌<◌, ◌^◌, [], ◌∷◌, false, List, length, map, option_map, IfOk, OnOk};
+ghost use Rattle.std.specs.Prelude.{◌≡◌, ◌++◌, ◌+◌, ◌<◌, ◌^◌, [], ◌∷◌, List, length, map, option_map, IfOk, OnOk};
 ghost use Rattle.std.specs.List.{list_all};
 ghost use Rattle.queries.specs.Before.{before_texts_of, given_texts_of};
 ghost use Rattle.queries.specs.Checks.{head_in, texts_of};

@@ -1,5 +1,5 @@
 //! The words for what an MDS is asked for, several accesses at once.
-ghost use Rattle.std.specs.Prelude.{◌≡◌, Some, None, MatchOption, option_map};
+ghost use Rattle.std.specs.Prelude.{◌≡◌, Some, MatchOption, option_map};
 ghost use Rattle.texts.specs.declared.mds_asked.MdsAccess.{MdsAccess as AnAccess};
 ghost use Rattle.queries.specs.MdsWords.{IsSeveral, mask_texts, mask_texts_of};
 

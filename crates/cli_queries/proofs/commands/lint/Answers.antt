@@ -1,6 +1,5 @@
-use Rattle.std.proofs.Common.{rules}
 use Rattle.texts.specs.Watched.{has_failed, inner_of}
-use Rattle.cli_queries.proofs.Unwritten.{refused_lint, refused_lint_by, unwritten_lint, written_lint}
+use Rattle.cli_queries.proofs.Unwritten.{refused_lint, refused_lint_by}
 use Rattle.cli_queries.proofs.commands.lint.Goals as goal
 
 pub returns-in_err-lines-in-Some-clause-fault : goal.returns-in_err-lines-in-Some-clause-fault

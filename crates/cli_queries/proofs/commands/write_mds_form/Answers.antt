@@ -1,4 +1,3 @@
-use Rattle.std.proofs.Common.{rules}
 use Rattle.texts.specs.Watched.{has_failed, inner_of}
 use Rattle.cli_queries.proofs.Unwritten.{missed_form, unwritten_form, with_form, without_form}
 use Rattle.cli_queries.proofs.commands.write_mds_form.Goals as goal

@@ -1,4 +1,4 @@
-use Rattle.std.proofs.Common.{Some, inl, inr, refl, sym, ◌∙◌}
+use Rattle.std.proofs.Common.{inl, refl, sym, ◌∙◌}
 use Rattle.cli_queries.proofs.file_systems.fs_asked.Goals as goal
 
 pub returns-in-Some-clause-ok : goal.returns-in-Some-clause-ok

@@ -1,4 +1,4 @@
-use Rattle.std.proofs.Common.{◌++◌, arith, inl, inr, refl, rules, take, length, length-append}
+use Rattle.std.proofs.Common.{◌++◌, arith, inl, inr, refl, rules, take, length-append}
 use Rattle.std.proofs.lemmas.Bool.{false≢true}
 use Rattle.ceph_input.specs.Reader.{so_far}
 use Rattle.texts.specs.Watched.{has_failed, inner_of}

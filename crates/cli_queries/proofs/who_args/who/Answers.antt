@@ -1,4 +1,4 @@
-use Rattle.std.proofs.Common.{◌≡◌, List, Option, Some, subst, ℕ, ◌∙◌, sym, ap}
+use Rattle.std.proofs.Common.{◌≡◌, List, Some, subst, ℕ}
 use Rattle.std.specs.Io.KnownBytes.{Appends}
 use Rattle.std.specs.Prelude.{IsFalse, Ok, OnOk}
 use Rattle.ceph_input.specs.Auth.{IsFaultOf, auth_of}

@@ -1,4 +1,4 @@
-use Rattle.std.proofs.Common.{◌++◌, rules, subst, ◌∙◌}
+use Rattle.std.proofs.Common.{◌++◌, subst, ◌∙◌}
 use Rattle.policy_analysis.specs.Callers.{Wanted}
 use Rattle.policy_analysis.specs.Standing.{Answers}
 use Rattle.queries.specs.Attempts.{wanted_by}

@@ -1,4 +1,4 @@
-use Rattle.std.proofs.Common.{rules, ◌∙◌}
+use Rattle.std.proofs.Common.{rules}
 use Rattle.std.proofs.lemmas.Result.{on_ok_weaker}
 use Rattle.queries.proofs.Looked.{by_releases}
 use Rattle.queries.proofs.linting.print_by_releases.Goals as goal

@@ -1,4 +1,4 @@
-use Rattle.std.proofs.Common.{ap, sym, ◌∙◌}
+use Rattle.std.proofs.Common.{ap, ◌∙◌}
 use Rattle.queries.proofs.Looked.{all_refused, no_refusal_more, one_refusal_more}
 use Rattle.queries.proofs.linting.print_refusals.Goals as goal
 use Rattle.queries.proofs.linting.print_refusals.Goals.{in-Some+in_ok-print_one_refusal, in_default}

@@ -1,4 +1,4 @@
-use Rattle.std.proofs.Common.{rules, refl, ◌∙◌}
+use Rattle.std.proofs.Common.{rules, refl}
 use Rattle.std.proofs.lemmas.Result.{on_ok_weaker}
 use Rattle.queries.proofs.Looked.{today_read, today_unread}
 use Rattle.queries.proofs.linting.print_today.Goals as goal

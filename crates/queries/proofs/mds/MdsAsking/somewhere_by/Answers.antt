@@ -1,4 +1,4 @@
-use Rattle.std.proofs.Common.{◌≡◌, Option, ℕ, List, ap, ◌∙◌}
+use Rattle.std.proofs.Common.{◌≡◌, List, ap, ◌∙◌}
 use Rattle.std.specs.Prelude.{position}
 use Rattle.release_grants.specs.declared.grant.Grant.{Grant}
 use Rattle.release_grants.specs.declared.switches.Switches.{Switches}
