@@ -1,5 +1,5 @@
 -- Things that are told of a log and differ are objects that differ.
-use Rattle.std.proofs.Common.{◌≡◌, ℕ, Bool, true, false, Option, None, Some, List, [], ◌∷◌, ◌++◌, refl, sym, ap, subst, ◌∙◌, append_assoc, arith}
+use Rattle.std.proofs.Common.{◌≡◌, ℕ, ◌<◌, ◌^◌, Bool, true, false, Option, None, Some, List, [], ◌∷◌, ◌++◌, refl, sym, ap, subst, ◌∙◌, append_assoc, arith}
 use Rattle.std.specs.Prelude.{All, bytes_eq, codes, if◌then◌else◌}
 use Rattle.std.specs.List.{AllZip, flat_map}
 use Rattle.std.proofs.lemmas.Bool.{false≢true}
@@ -15,13 +15,13 @@ use Rattle.release_rules.specs.declared.beside.Others.{Others}
 use Rattle.texts.specs.declared.shape.Shape.TheVariants.{Objects}
 use Rattle.texts.specs.Answers.{answer_value}
 use Rattle.texts.specs.Remarked.{AreLeftAlike}
-use Rattle.texts.specs.Values.{ReadsBack, json_line}
+use Rattle.texts.specs.Values.{json_line}
 use Rattle.texts.proofs.Clients.{has_word, kind_of}
 use Rattle.texts.proofs.Distinct.{number_in, one_answer, text_in, value_at}
 use Rattle.texts.proofs.MdsDistinct.{asked_of as release_named, has_version, one_mds_answer}
 use Rattle.texts.proofs.MdsWords.{one_word}
 use Rattle.texts.proofs.Spelling.{one_spelling}
-use Rattle.texts.proofs.Streams.{one_line}
+use Rattle.texts.proofs.WholeNumbers.{one_line}
 use Rattle.queries.specs.declared.any_path.AnyPath.{AnyPath}
 use Rattle.queries.specs.declared.any_path.AnyPath.TheVariants.{Anywhere, Nowhere, OnAddress, Somewhere}
 use Rattle.queries.specs.Items.{HasObject, IsAskableIf, SameOfLine, SameTold, item_in, reported_in}
@@ -142,14 +142,14 @@ no_count number (refused fault) = refl
 no_count number (bad option) = refl
 no_count number (not_read found) = refl
 
-no_thing : {A : Type 0} (m : ℕ) (y : Item) (rest : List ℕ) → HasObject y → ReadsBack (passed_value m) → json_line (passed_value m) ≡ item_in Objects y ++ rest → A
-no_thing m y rest there read same =
-    let value = one_line (passed_value m) (object_value y.0 y.1) [] rest read there.1 (append-nil (json_line (passed_value m)) ∙ same) in
+no_thing : {A : Type 0} (m : ℕ) (y : Item) (rest : List ℕ) → HasObject y → m < 2 ^ 64 → json_line (passed_value m) ≡ item_in Objects y ++ rest → A
+no_thing m y rest there small same =
+    let value = one_line (passed_value m) (object_value y.0 y.1) [] rest (small, tt) there.1 (append-nil (json_line (passed_value m)) ∙ same) in
     absurd (let e : false ≡ true = ap counts_lines value.0 ∙ no_count y.0 y.1 in false≢true e)
 
-pub one_log : (xs ys : List Item) (m n : ℕ) → All HasObject xs → All HasObject ys → ReadsBack (passed_value m) → ReadsBack (passed_value n) → reported_in Objects xs m ≡ reported_in Objects ys n → AllZip SameOfLine xs ys × (m ≡ n)
+pub one_log : (xs ys : List Item) (m n : ℕ) → All HasObject xs → All HasObject ys → m < 2 ^ 64 → n < 2 ^ 64 → reported_in Objects xs m ≡ reported_in Objects ys n → AllZip SameOfLine xs ys × (m ≡ n)
 one_log [] [] m n p o small also same =
-    let both = one_line (passed_value m) (passed_value n) [] [] small also (append-nil (json_line (passed_value m)) ∙ same ∙ sym (append-nil (json_line (passed_value n)))) in
+    let both = one_line (passed_value m) (passed_value n) [] [] (small, tt) (also, tt) (append-nil (json_line (passed_value m)) ∙ same ∙ sym (append-nil (json_line (passed_value n)))) in
     (tt, ap (λ (d : Data). number_in (value_at (codes "passed_over") d)) both.0)
 one_log [] (y ∷ ys) m n p o small also same =
     no_thing m y (reported_in Objects ys n) (All-head HasObject y ys o) small (same ∙ append_assoc (item_in Objects y) (flat_map (item_in Objects) ys) (json_line (passed_value n)))

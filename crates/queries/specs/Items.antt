@@ -10,14 +10,14 @@ use Rattle.texts.specs.Answers.{IsAskable}
 use Rattle.texts.specs.Explaining.{path_text}
 use Rattle.texts.specs.MdsTold.{HasMdsGrant, HasSmallNumbers}
 use Rattle.texts.specs.Remarked.{AreLeftAlike, HasNumbers}
-use Rattle.texts.specs.Values.{ReadsBack}
+use Rattle.texts.specs.Values.{HasWholeNumbers}
 use Rattle.policy_analysis.specs.Left.{left_to_client}
 use Rattle.queries.specs.declared.question.Question.{Question}
 use Rattle.queries.specs.Mds.{asked_by}
 use Rattle.queries.specs.Question.{verdict_on}
 use Rattle.queries.specs.Remarks.{asked_of, others_on}
 use Rattle.queries.specs.AnyPath.{HasSmall}
-use Rattle.queries.specs.Told.{Told, object_value, passed_in, passed_value, text_in}
+use Rattle.queries.specs.Told.{Told, object_value, passed_in, text_in}
 use Rattle.queries.specs.Told.Told.{answered, bad, formless, judged_by, not_read, pathless, refused, unknown}
 use Rattle.queries.specs.Reported.{IsReportOf, Item, Scope}
 
@@ -55,9 +55,8 @@ IsAskableIf (pathless caller access any) = HasSmallNumbers access
 IsAskableIf (unknown mask) = IsBytes mask
 IsAskableIf told = Unit {0}
 
--- and who reads its object has it again
 abbrev pub HasObject : Item → Type 0
-HasObject item = IsAskableIf item.1 × ReadsBack (object_value item.0 item.1)
+HasObject item = IsAskableIf item.1 × HasWholeNumbers (object_value item.0 item.1)
 
 -- the same access is asked for at the same path, and the same is said to that and beside it, by the texts of the grants
 abbrev pub AnswerAlike : Question → List ℕ → Question → List ℕ → Type 0
@@ -88,7 +87,7 @@ OneLog = (xs ys : List Item) (m n : ℕ) → All HasLines xs → All HasLines ys
 
 -- and so do objects
 abbrev pub OneLogOfObjects : Type 0
-OneLogOfObjects = (xs ys : List Item) (m n : ℕ) → All HasObject xs → All HasObject ys → ReadsBack (passed_value m) → ReadsBack (passed_value n)
+OneLogOfObjects = (xs ys : List Item) (m n : ℕ) → All HasObject xs → All HasObject ys → m < 2 ^ 64 → n < 2 ^ 64
     → reported_in Objects xs m ≡ reported_in Objects ys n → AllZip SameOfLine xs ys × (m ≡ n)
 
 -- what is told of a log that is not too long, and not counted, is such things

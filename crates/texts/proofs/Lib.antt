@@ -13,6 +13,7 @@ pub mod Tables
 pub mod Plain
 pub mod Spelling
 pub mod Streams
+pub mod WholeNumbers
 pub mod Distinct
 pub mod JsonClients
 pub mod JsonLinted

@@ -1,8 +1,8 @@
 -- JSON values, and the lines that they are.
-use Rattle.std.specs.Prelude.{◌≡◌, ◌≤◌, ℕ, false, List, [], ◌∷◌, ◌++◌, codes, map, Option, Some, None, if◌then◌else◌}
+use Rattle.std.specs.Prelude.{◌≡◌, ◌<◌, ◌≤◌, ◌^◌, ℕ, false, List, [], ◌∷◌, ◌++◌, codes, map, Option, Some, None, if◌then◌else◌}
 use Rattle.std.specs.Str.{is_utf8}
 use Rattle.hex.specs.Hex.{encode_lower}
-use Rattle.serde_json.specs.Data.{Data, Members, array, depth, no_members, null, number, object, put, string, unsigned}
+use Rattle.serde_json.specs.Data.{Data, Items, Members, Num, array, boolean, depth, float, item, member, negative, no_items, no_members, null, number, object, put, string, unsigned}
 use Rattle.serde_json.specs.Read.{max_depth, read}
 use Rattle.serde_json.specs.View.{items_of}
 use Rattle.serde_json.specs.Written.{compact_text, has_float}
@@ -52,3 +52,29 @@ ReadsBack d = read (compact_text d) ≡ Some d
 -- it has no float, and does not nest too deep to be read
 abbrev pub IsPlain : Data → Type 0
 IsPlain d = (has_float d ≡ false) × (depth d ≤ max_depth)
+
+-- ---- numbers
+
+-- a natural number of 64 bits
+abbrev pub IsWhole : Num → Type 0
+IsWhole (unsigned n) = n < 2 ^ 64
+IsWhole (negative z) = ⊥
+IsWhole (float x) = ⊥
+
+-- each number in it is one
+abbrev mutual
+  pub HasWholeNumbers : Data → Type 0
+  HasWholeNumbers null = Unit {0}
+  HasWholeNumbers (boolean b) = Unit {0}
+  HasWholeNumbers (number n) = IsWhole n
+  HasWholeNumbers (string text) = Unit {0}
+  HasWholeNumbers (array ds) = ItemsHaveWholeNumbers ds
+  HasWholeNumbers (object ms) = MembersHaveWholeNumbers ms
+
+  pub ItemsHaveWholeNumbers : Items → Type 0
+  ItemsHaveWholeNumbers no_items = Unit {0}
+  ItemsHaveWholeNumbers (item d ds) = HasWholeNumbers d × ItemsHaveWholeNumbers ds
+
+  pub MembersHaveWholeNumbers : Members → Type 0
+  MembersHaveWholeNumbers no_members = Unit {0}
+  MembersHaveWholeNumbers (member key d ms) = HasWholeNumbers d × MembersHaveWholeNumbers ms

@@ -10,7 +10,7 @@ ghost use Rattle.texts.specs.Findings.{EachHasAnObject, OneFinding};
 ghost use Rattle.texts.specs.MdsAnswers.{OneMdsAnswer};
 ghost use Rattle.texts.specs.MdsStandings.{OneMdsStanding};
 ghost use Rattle.texts.specs.Standings.{OneStanding};
-ghost use Rattle.texts.specs.Values.{ReadsBack, bytes_value, json_line};
+ghost use Rattle.texts.specs.Values.{HasWholeNumbers, ReadsBack, bytes_value, json_line};
 
 /// Bytes that differ are written as values that differ, whether they are UTF-8 or not.
 pub fn one_spelling_for_bytes()
@@ -18,9 +18,10 @@ pub fn one_spelling_for_bytes()
 {}
 
 /// Values that read back and differ have lines that differ. So have two lists of them: no line of a value can be taken for two, or for a
-/// part of one.
+/// part of one. Values whose numbers are natural ones of 64 bits need not be known to read back.
 pub fn one_value_for_a_line()
     ensures line { (d e : Data) → ReadsBack d → ReadsBack e → json_line d ≡ json_line e → d ≡ e }
+    ensures whole { (d e : Data) → HasWholeNumbers d → HasWholeNumbers e → json_line d ≡ json_line e → d ≡ e }
     ensures lines { (ds es : List Data) → All ReadsBack ds → All ReadsBack es → flat_map json_line ds ≡ flat_map json_line es → ds ≡ es }
 {}
 
