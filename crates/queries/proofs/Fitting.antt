@@ -196,7 +196,7 @@ power (suc (suc (suc zero))) small = omega arith
 power (suc (suc (suc (suc zero)))) small = omega arith
 power (suc (suc (suc (suc (suc n))))) small = absurd (omega (arith, small))
 
-small_mode : (text : List ℕ) (mode : ℕ) → IsModeText text mode → mode < 2 ^ 12
+pub small_mode : (text : List ℕ) (mode : ℕ) → IsModeText text mode → mode < 2 ^ 12
 small_mode text mode is =
     let digits : List ℕ = without_kind text in
     omega (arith, is.value, digits_value-lt 8 digits is.numeral.1, power (length digits) is.short)

@@ -20,12 +20,14 @@ use Rattle.capgrant.specs.Question.{Question as Asked}
 use Rattle.policy_analysis.specs.Left.{left_to_client}
 use Rattle.release_rules.specs.declared.beside.Others.{Others}
 use Rattle.release_grants.specs.declared.grant.Grant.{Grant}
+use Rattle.release_grants.specs.declared.switches.Switches.{Switches}
 use Rattle.release_rules.specs.declared.release.Release.{Release}
 use Rattle.release_rules.specs.declared.release.Release.TheVariants.{Pacific, Reef, Tentacle}
 use Rattle.release_rules.specs.declared.verdict.Verdict.{Verdict as MdsVerdict}
 use Rattle.release_rules.specs.declared.verdict.Verdict.TheVariants as mds
 use Rattle.release_rules.specs.Clients.{client_refuses}
 use Rattle.release_rules.specs.Failing.{may_allow_somewhere}
+use Rattle.release_rules.specs.Question.{Question as MdsQuestion}
 use Rattle.release_rules.specs.Releases.{switches_of, version_of}
 use Rattle.release_grants.proofs.FewRead.{AreFew, few_read, near_read}
 use Rattle.texts.specs.Lines.{HasNumber}
@@ -48,6 +50,7 @@ use Rattle.texts.proofs.MdsAnswered.{one_mds_line_to}
 use Rattle.texts.proofs.MdsDistinct.{asked_of as release_named, has_version}
 use Rattle.texts.proofs.Quoted.{bare, bare_to, before_a_line_feed, first_byte}
 use Rattle.texts.proofs.Remarked.{IsOther}
+use Rattle.texts.proofs.WholeObjects.{HasSmallIds}
 use Rattle.queries.specs.declared.fault.QuestionFault.{QuestionFault}
 use Rattle.queries.specs.declared.fault.QuestionFault.TheVariants.{Grants as BadGrants}
 use Rattle.queries.specs.declared.fault.QuestionFault.TheVariants.{BadValue, NoMemory}
@@ -68,7 +71,7 @@ use Rattle.texts.specs.ScriptLines.{lines}
 use Rattle.queries.specs.Checks.{CheckTexts, HeadTexts, check_of, head_in}
 use Rattle.queries.specs.Before.{BeforeTexts, GivenTexts, given_of, known_of, said_before}
 use Rattle.queries.specs.AnyPath.{any_path_text}
-use Rattle.queries.specs.Items.{HasLines, IsOfMask, IsTellable, SameOfLine, SameTold, item_in, reported_in}
+use Rattle.queries.specs.Items.{HasLines, HasObject, IsOfMask, IsTellable, SameOfLine, SameTold, item_in, reported_in}
 use Rattle.queries.specs.Told.Told.{answered, bad, formless, judged_by, not_read, pathless, refused, unknown}
 use Rattle.queries.specs.Masks.{accesses_of}
 use Rattle.queries.specs.Reported.{AreReported, AreValues, IsAnswered, IsAnsweredBy, IsFaulty, IsFaultyBy, IsReportOf, IsReported, IsUnreadBy, Item, Says, SaysBehind, SaysBy, SaysIf}
@@ -80,6 +83,7 @@ use Rattle.queries.specs.Reported.IsReported.{checked, kept, passed_over}
 use Rattle.queries.proofs.LogLines.{few_passed, next_number}
 use Rattle.queries.proofs.AnyPaths.{has_small, has_small_by, one_any_path}
 use Rattle.queries.proofs.FewThere.{are_beside, small_there}
+use Rattle.queries.proofs.ObjectNumbers.{AsksSmall, HasAllNumbers, asks_small, few_there, has_object, small_ids, small_of}
 use Rattle.queries.proofs.Fitting.{AreShort, HasFew, all_asked, few_lines, fits, near_fault, short_check, short_grants, short_head, short_lines}
 
 -- ---- how the lines begin
@@ -279,10 +283,6 @@ one_unread f g s t small also same =
         laid : (version at s : List ℕ) → (codes "grants: " ++ ((codes "not read by Ceph " ++ (version ++ (codes " at " ++ at))) ++ codes "\n")) ++ s ≡ codes "grants: not read by Ceph " ++ (version ++ 32 ∷ (codes "at " ++ (at ++ 10 ∷ s)))
         laid version at s = simp append_assoc
 
-small_of : (access : MdsAccess) → IsOfMask access → HasSmallNumbers access
-small_of (AllOf bits uid gid) fits = fits
-small_of access fits = absurd fits
-
 one_judged : (a b : MdsAccess) (p q : List (List ℕ)) (v w : MdsVerdict) (x y : Option ℕ) (s t : List ℕ) → x ≡ None → y ≡ None → HasSmallNumbers a → HasSmallNumbers b → HasMdsGrant v → HasMdsGrant w
     → mds_text a p v x ++ s ≡ mds_text b q w y ++ t → ((a ≡ b) × (path_text p ≡ path_text q) × (v ≡ w)) × (s ≡ t)
 one_judged a b p q v w x y s t none too small also low high same =
@@ -337,81 +337,88 @@ one_log (x ∷ xs) (y ∷ ys) m n p o small also same =
 
 -- ---- what is told of a check
 
-one : (t : Told) → IsTellable t → All IsTellable (t ∷ [])
-one t fits = All-cons IsTellable t [] fits (All-nil IsTellable)
+one : (t : Told) → HasAllNumbers t → All HasAllNumbers (t ∷ [])
+one t fits = All-cons HasAllNumbers t [] fits (All-nil HasAllNumbers)
 
-is_one : (told : List Told) (t : Told) → IsTellable t → told ≡ t ∷ [] → All IsTellable told
-is_one told t fits is = subst (λ (ts : List Told). All IsTellable ts) (sym is) (one t fits)
+is_one : (told : List Told) (t : Told) → HasAllNumbers t → told ≡ t ∷ [] → All HasAllNumbers told
+is_one told t fits is = subst (λ (ts : List Told). All HasAllNumbers ts) (sym is) (one t fits)
 
-of_access : (grants : List ℕ) (q : Question) (has_path : Bool) (access : Access) → length grants < 2 ^ 63 → HasNumbers (asked_of (with_access q access)) q.grants → IsTellable (answer_to has_path grants q access)
-of_access grants q true access short fit = (fit, short)
-of_access grants q false access short fit = (fit.access, has_small (with_access q access) fit)
+of_access : (grants : List ℕ) (q : Question) (has_path : Bool) (access : Access) → length grants < 2 ^ 63 → HasNumbers (asked_of (with_access q access)) q.grants → HasSmallIds q.caller
+    → HasAllNumbers (answer_to has_path grants q access)
+of_access grants q true access short fit ids = ((fit, short), ids)
+of_access grants q false access short fit ids = ((fit.access, has_small (with_access q access) fit), ids)
 
 of_accesses : (v : Values) (grants : List ℕ) (q : Question) (has_path : Bool) → length grants < 2 ^ 63 → AsksFor v q → (accesses : List Access) → All HasNumber accesses
-    → All IsTellable (map (answer_to has_path grants q) accesses)
-of_accesses v grants q has_path short asks [] numbers = All-nil IsTellable
+    → All HasAllNumbers (map (answer_to has_path grants q) accesses)
+of_accesses v grants q has_path short asks [] numbers = All-nil HasAllNumbers
 of_accesses v grants q has_path short asks (access ∷ accesses) numbers =
-    All-cons IsTellable (answer_to has_path grants q access) (map (answer_to has_path grants q) accesses)
-    (of_access grants q has_path access short (fits v q access asks (All-head HasNumber access accesses numbers)))
+    All-cons HasAllNumbers (answer_to has_path grants q access) (map (answer_to has_path grants q) accesses)
+    (of_access grants q has_path access short (fits v q access asks (All-head HasNumber access accesses numbers)) (small_ids v q asks))
     (of_accesses v grants q has_path short asks accesses (All-tail HasNumber access accesses numbers))
 
-of_fault : (check : CheckTexts) (v : Values) (fault : QuestionFault) (told : Told) → v.grants.items ≡ check.grants → length check.grants < 2 ^ 63 → IsFaultIn v fault → TellsFault fault told → IsTellable told
-of_fault check v (BadGrants fault) told same short first tells = subst IsTellable (sym tells) (omega (arith, near_fault v.grants.items fault first, ap (λ (bytes : List ℕ). length bytes) same, short))
-of_fault check v (BadValue option) told same short first tells = subst IsTellable (sym tells) tt
+of_fault : (check : CheckTexts) (v : Values) (fault : QuestionFault) (told : Told) → v.grants.items ≡ check.grants → length check.grants < 2 ^ 63 → IsFaultIn v fault → TellsFault fault told → HasAllNumbers told
+of_fault check v (BadGrants fault) told same short first tells =
+    subst HasAllNumbers (sym tells) (omega (arith, near_fault v.grants.items fault first, ap (λ (bytes : List ℕ). length bytes) same, short), tt)
+of_fault check v (BadValue option) told same short first tells = subst HasAllNumbers (sym tells) (tt, tt)
 of_fault check v NoMemory told same short first tells = absurd tells
 
 of_values : (given : GivenTexts) (path : List ℕ) (check : CheckTexts) (v : Values) (told : List Told) (has_path : Bool) → length check.grants < 2 ^ 63 → AreValues given path check v
-    → IsAnswered has_path check v told ⊎ IsFaulty v told → All IsTellable told
+    → IsAnswered has_path check v told ⊎ IsFaulty v told → All HasAllNumbers told
 of_values given path check v told has_path short values (inl says) =
-    subst (λ (ts : List Told). All IsTellable ts) (sym says.told_is) (of_accesses v check.grants says.question has_path short says.asks (accesses_of says.mask) (all_asked check says.mask says.is_mask))
+    subst (λ (ts : List Told). All HasAllNumbers ts) (sym says.told_is) (of_accesses v check.grants says.question has_path short says.asks (accesses_of says.mask) (all_asked check says.mask says.is_mask))
 of_values given path check v told has_path short values (inr says) = is_one told says.one (of_fault check v says.fault says.one values.grants short says.first says.tells) says.told_is
 
-of_check : (given : GivenTexts) (check : CheckTexts) (told : List Told) → length check.grants < 2 ^ 63 → Says given check told → All IsTellable told
-of_check given check told short (inl says) = is_one told (unknown check.mask) tt says.1
+of_check : (given : GivenTexts) (check : CheckTexts) (told : List Told) → length check.grants < 2 ^ 63 → Says given check told → All HasAllNumbers told
+of_check given check told short (inl says) = is_one told (unknown check.mask) (tt, tt) says.1
 of_check given check told short (inr says) = of_values given (path_or_root given.path) check says.0 told (is_some given.path) short says.1 says.2
 
 -- by a release
-of_release : (has_path : Bool) (release : Release) (grants : List Grant) (mask : Mask) (asking : Asking) (most : ℕ) → HasSmallNumbers (AllOf mask.bits mask.uid mask.gid) → length grants ≤ most → most < 2 ^ 64
-    → IsTellable (answer_there has_path release grants (asking_all mask asking))
-of_release true release grants mask asking most fits few small =
+of_release : (has_path : Bool) (release : Release) (grants : List Grant) (mask : Mask) (asking : Asking) (most : ℕ) → HasSmallNumbers (AllOf mask.bits mask.uid mask.gid) → AsksSmall asking
+    → length grants ≤ most → most + 1 < 2 ^ 64 → HasAllNumbers (answer_there has_path release grants (asking_all mask asking))
+of_release true release grants mask asking most fits asks few small =
     let a : MdsAsking = asking_all mask asking in
-    (fits, small_there (switches_of release) (mds_question asking (asked_there a.access)) grants (omega (arith, few, small)), unrefused (mounts (answer_by release a grants).verdict))
+    let switches : Switches = switches_of release in
+    let q : MdsQuestion = mds_question asking (asked_there a.access) in (
+      (fits, small_there switches q grants (omega (arith, few, small)), unrefused (mounts (answer_by release a grants).verdict)),
+      (asks, few_there switches q grants (omega (arith, few, small))),
+    )
   where
     unrefused : (b : Bool) → (if b && false then client_refuses (switches_of release) (mds_question asking (asked_there (AllOf mask.bits mask.uid mask.gid))) grants else None) ≡ None
     unrefused true = refl
     unrefused false = refl
-of_release false release grants mask asking most fits few small =
-    let a : MdsAsking = asking_all mask asking in (
-      fits,
-      has_small_by (answer_by release a grants).verdict (may_allow_somewhere (switches_of release) (mds_question asking (asked_there a.access))) grants most few small
-          (small_there (switches_of release) (mds_question asking (asked_there a.access)) grants (omega (arith, few, small))),
-    )
+of_release false release grants mask asking most fits asks few small =
+    let a : MdsAsking = asking_all mask asking in
+    let switches : Switches = switches_of release in
+    let q : MdsQuestion = mds_question asking (asked_there a.access) in
+    let grant = has_small_by (answer_by release a grants).verdict (may_allow_somewhere switches q) grants most few (omega (arith, small)) (small_there switches q grants (omega (arith, few, small))) in
+    ((fits, grant), asks.ids)
 
-of_values_by : (release : Release) (check : CheckTexts) (v : Values) (told : List Told) (has_path : Bool) → length check.grants < 2 ^ 63 → IsAnsweredBy has_path release check v told ⊎ IsFaultyBy v told → All IsTellable told
+of_values_by : (release : Release) (check : CheckTexts) (v : Values) (told : List Told) (has_path : Bool) → length check.grants < 2 ^ 63 → IsAnsweredBy has_path release check v told ⊎ IsFaultyBy v told → All HasAllNumbers told
 of_values_by release check v told has_path short (inl says) =
     let few : length says.grants ≤ length check.grants + 1 = subst (AreFew (length check.grants + 1)) says.reads (few_read (switches_of release) check.grants) in
     is_one told (answer_there has_path release says.grants (asking_all says.mask says.asking))
-    (of_release has_path release says.grants says.mask says.asking (length check.grants + 1) (says.numbers.bits.small, says.numbers.uid.small, says.numbers.gid.small) few (omega (arith, short))) says.told_is
+    (of_release has_path release says.grants says.mask says.asking (length check.grants + 1) (says.numbers.bits.small, says.numbers.uid.small, says.numbers.gid.small)
+    (asks_small v (codes "read") says.asking says.asks) few (omega (arith, short))) says.told_is
 of_values_by release check v told has_path short (inr says) = is_one told says.one (of_fault_by says.fault says.first says.one says.tells) says.told_is
   where
-    of_fault_by : (fault : QuestionFault) → IsFaultOfAsking v (codes "read") fault → (t : Told) → TellsFault fault t → IsTellable t
+    of_fault_by : (fault : QuestionFault) → IsFaultOfAsking v (codes "read") fault → (t : Told) → TellsFault fault t → HasAllNumbers t
     of_fault_by (BadGrants fault) first t tells = absurd first
-    of_fault_by (BadValue option) first t tells = subst IsTellable (sym tells) tt
+    of_fault_by (BadValue option) first t tells = subst HasAllNumbers (sym tells) (tt, tt)
     of_fault_by NoMemory first t tells = absurd tells
 
-of_unread : (release : Release) (check : CheckTexts) (told : List Told) → length check.grants < 2 ^ 63 → IsUnreadBy release check told → All IsTellable told
+of_unread : (release : Release) (check : CheckTexts) (told : List Told) → length check.grants < 2 ^ 63 → IsUnreadBy release check told → All HasAllNumbers told
 of_unread release check told short says =
-    is_one told (not_read says.found) (omega (arith, short, near_read (switches_of release) check.grants (record { at = says.found.at }) says.is_fault.1)) says.told_is
+    is_one told (not_read says.found) (omega (arith, short, near_read (switches_of release) check.grants (record { at = says.found.at }) says.is_fault.1), tt) says.told_is
 
-of_check_by : (release : Option Release) (given : GivenTexts) (check : CheckTexts) (told : List Told) → length check.grants < 2 ^ 63 → SaysBy release given check told → All IsTellable told
+of_check_by : (release : Option Release) (given : GivenTexts) (check : CheckTexts) (told : List Told) → length check.grants < 2 ^ 63 → SaysBy release given check told → All HasAllNumbers told
 of_check_by None given check told short says = of_check given check told short says
-of_check_by (Some release) given check told short (inl says) = is_one told (unknown check.mask) tt says.1
+of_check_by (Some release) given check told short (inl says) = is_one told (unknown check.mask) (tt, tt) says.1
 of_check_by (Some release) given check told short (inr (inl says)) = of_unread release check told short says
 of_check_by (Some release) given check told short (inr (inr says)) = of_values_by release check says.0 told (is_some given.path) short says.2
 
 of_form : (scope : Scope) (name : Option (List ℕ)) (before : Option BeforeTexts) (check : Option CheckTexts) (told : List Told) → IfSome check (λ c. length c.grants < 2 ^ 63)
-    → SaysIf scope name before check told → All IsTellable told
-of_form scope name before None told short says = is_one told formless tt says
+    → SaysIf scope name before check told → All HasAllNumbers told
+of_form scope name before None told short says = is_one told formless (tt, tt) says
 of_form scope name before (Some check) told short says = of_check_by scope.release (given_of scope.fs name (known_of check before) check) check told short says
 
 -- the grants of a check in a line of a short log
@@ -422,26 +429,32 @@ short_check_of most text inside short = by_check (check_of text) (short_grants t
     by_check None fit = tt
     by_check (Some check) fit = omega (arith, fit, inside, short)
 
-of_head : (scope : Scope) (before : Option BeforeTexts) (most : ℕ) (head : Option HeadTexts) (told : List Told) → most < 2 ^ 63 → HasFew most head → SaysBehind scope before head told → All IsTellable told
-of_head scope before most None told short few says = is_one told formless tt says
+of_head : (scope : Scope) (before : Option BeforeTexts) (most : ℕ) (head : Option HeadTexts) (told : List Told) → most < 2 ^ 63 → HasFew most head → SaysBehind scope before head told → All HasAllNumbers told
+of_head scope before most None told short few says = is_one told formless (tt, tt) says
 of_head scope before most (Some (name, parts)) told short few says = of_form scope name before (check_of parts) told (short_check_of most parts few short) says
 
 -- ---- what is told of a log
 
-numbered : (number : ℕ) → number < 2 ^ 64 → (told : List Told) → All IsTellable told → All HasLines (of_line number told)
-numbered number small [] fits = All-nil HasLines
-numbered number small (t ∷ told) fits = All-cons HasLines (number, t) (of_line number told) (small, All-head IsTellable t told fits) (numbered number small told (All-tail IsTellable t told fits))
+-- it has lines, and an object
+abbrev IsThing : Item → Type 0
+IsThing item = HasLines item × HasObject item
 
-of_one_line : {scope : Scope} {line : List ℕ} {items : List Item} {s next : State} (most : ℕ) → s.number < 2 ^ 64 → most < 2 ^ 63 → length line ≤ most → IsReported scope s line items next → All HasLines items
-of_one_line most small short few (kept before) = All-nil HasLines
-of_one_line most small short few (passed_over other without) = All-nil HasLines
+numbered : (number : ℕ) → number < 2 ^ 64 → (told : List Told) → All HasAllNumbers told → All IsThing (of_line number told)
+numbered number small [] fits = All-nil IsThing
+numbered number small (t ∷ told) fits =
+    let here = All-head HasAllNumbers t told fits in
+    All-cons IsThing (number, t) (of_line number told) ((small, here.0), has_object number t small here) (numbered number small told (All-tail HasAllNumbers t told fits))
+
+of_one_line : {scope : Scope} {line : List ℕ} {items : List Item} {s next : State} (most : ℕ) → s.number < 2 ^ 64 → most < 2 ^ 63 → length line ≤ most → IsReported scope s line items next → All IsThing items
+of_one_line most small short few (kept before) = All-nil IsThing
+of_one_line most small short few (passed_over other without) = All-nil IsThing
 of_one_line {scope} {line} {items} {s} most small short few (checked parts told other is says) =
     numbered s.number small told (of_head scope (said_before s.before) most (head_in parts) told short (short_head most parts (short_check most line parts few is)) says)
 
-of_lines : {scope : Scope} {items : List Item} {s end : State} (most : ℕ) (log : List (List ℕ)) → s.number + length log < 2 ^ 64 → most < 2 ^ 63 → AreShort most log → AreReported scope s log items end → All HasLines items
-of_lines most [] small short few no_more = All-nil HasLines
+of_lines : {scope : Scope} {items : List Item} {s end : State} (most : ℕ) (log : List (List ℕ)) → s.number + length log < 2 ^ 64 → most < 2 ^ 63 → AreShort most log → AreReported scope s log items end → All IsThing items
+of_lines most [] small short few no_more = All-nil IsThing
 of_lines most (line ∷ log) small short few (one_more first more says others) =
-    All-append HasLines first more (of_one_line most (omega (arith, small)) short few.0 says) (of_lines most log (omega (arith, small, next_number says)) short few.1 others)
+    All-append IsThing first more (of_one_line most (omega (arith, small)) short few.0 says) (of_lines most log (omega (arith, small, next_number says)) short few.1 others)
 
 few_at_end : {scope : Scope} {items : List Item} {s end : State} (log : List (List ℕ)) → AreReported scope s log items end → end.passed ≤ s.passed + length log
 few_at_end [] no_more = omega arith
@@ -449,34 +462,35 @@ few_at_end (line ∷ log) (one_more first more says others) = omega (arith, few_
 
 -- those that are not left out
 abbrev FewerTold : Scope → List Item → Type 0
-FewerTold scope items = (xs : List Item) × All HasLines xs × (text_of scope items ≡ flat_map (item_in scope.shape) xs)
+FewerTold scope items = (xs : List Item) × All IsThing xs × (text_of scope items ≡ flat_map (item_in scope.shape) xs)
 
-unless : (left : Bool) (shape : Shape) (item : Item) (text : List ℕ) (xs : List Item) → HasLines item → All HasLines xs → text ≡ flat_map (item_in shape) xs
-    → (ys : List Item) × All HasLines ys × ((if left then [] else item_in shape item) ++ text ≡ flat_map (item_in shape) ys)
+unless : (left : Bool) (shape : Shape) (item : Item) (text : List ℕ) (xs : List Item) → IsThing item → All IsThing xs → text ≡ flat_map (item_in shape) xs
+    → (ys : List Item) × All IsThing ys × ((if left then [] else item_in shape item) ++ text ≡ flat_map (item_in shape) ys)
 unless true shape item text xs fits all is = (xs, all, is)
-unless false shape item text xs fits all is = (item ∷ xs, All-cons HasLines item xs fits all, ap (λ (t : List ℕ). item_in shape item ++ t) is)
+unless false shape item text xs fits all is = (item ∷ xs, All-cons IsThing item xs fits all, ap (λ (t : List ℕ). item_in shape item ++ t) is)
 
-fewer : (scope : Scope) (items : List Item) → scope.counts ≡ false → All HasLines items → FewerTold scope items
-fewer scope [] plain all = ([], All-nil HasLines, refl)
+fewer : (scope : Scope) (items : List Item) → scope.counts ≡ false → All IsThing items → FewerTold scope items
+fewer scope [] plain all = ([], All-nil IsThing, refl)
 fewer scope (item ∷ items) plain all =
-    let rest = fewer scope items plain (All-tail HasLines item items all) in
+    let rest = fewer scope items plain (All-tail IsThing item items all) in
     let left : Bool = leaves_out scope && allows item.1 in
-    let told = unless left scope.shape item (text_of scope items) rest.0 (All-head HasLines item items all) rest.1 rest.2 in (
+    let told = unless left scope.shape item (text_of scope items) rest.0 (All-head IsThing item items all) rest.1 rest.2 in (
       told.0,
       told.1,
       ap (λ (t : List ℕ). (if left then [] else t) ++ text_of scope items) (cond-false scope.counts (kind_in scope.shape item.1) (item_in scope.shape item) plain) ∙ told.2,
     )
 
-pub each_has_its_lines : (scope : Scope) (log reported : List ℕ) (judged : Bool) → scope.counts ≡ false → length log < 2 ^ 62 → IsReportOf scope log reported judged
-    → (xs : List Item) × (passed : ℕ) × All HasLines xs × (passed < 2 ^ 64) × (reported ≡ reported_in scope.shape xs passed)
-each_has_its_lines scope log reported judged plain short says =
+pub each_has_its_text : (scope : Scope) (log reported : List ℕ) (judged : Bool) → scope.counts ≡ false → length log < 2 ^ 62 → IsReportOf scope log reported judged
+    → (xs : List Item) × (passed : ℕ) × All HasLines xs × All HasObject xs × (passed < 2 ^ 64) × (reported ≡ reported_in scope.shape xs passed)
+each_has_its_text scope log reported judged plain short says =
     let are = says.2.1 in
     let items = says.0 in
     let passed = says.1 in
     let told = fewer scope items plain (of_lines (length log) (lines log) (omega (arith, short, few_lines log)) (omega (arith, short)) (short_lines log) are) in (
       told.0,
       passed,
-      told.1,
+      λ k d here. (told.1 k d here).0,
+      λ k d here. (told.1 k d here).1,
       omega (arith, short, few_lines log, few_at_end (lines log) are, says.2.2),
       says.3 ∙ ap (λ (r : List ℕ). r ++ passed_in scope.shape passed) (cond-false scope.counts (counts_in scope items) (text_of scope items) plain ∙ told.2),
     )

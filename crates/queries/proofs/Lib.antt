@@ -21,6 +21,7 @@ pub mod Fitting
 pub mod AnyPaths
 pub mod LogTold
 pub mod FewThere
+pub mod ObjectNumbers
 pub mod Items
 pub mod LogObjects
 pub mod WrittenChecks

@@ -6,14 +6,13 @@ use Rattle.texts.specs.declared.mds_asked.MdsAccess.{MdsAccess}
 use Rattle.texts.specs.declared.mds_asked.MdsAccess.TheVariants.{Mask as AllOf}
 use Rattle.texts.specs.declared.shape.Shape.{Shape}
 use Rattle.texts.specs.declared.shape.Shape.TheVariants.{Lines, Objects}
-use Rattle.texts.specs.Answers.{IsAskable}
 use Rattle.texts.specs.Explaining.{path_text}
+use Rattle.texts.specs.Lines.{HasNumber}
 use Rattle.texts.specs.MdsTold.{HasMdsGrant, HasSmallNumbers}
 use Rattle.texts.specs.Remarked.{AreLeftAlike, HasNumbers}
 use Rattle.texts.specs.Values.{HasWholeNumbers}
 use Rattle.policy_analysis.specs.Left.{left_to_client}
 use Rattle.queries.specs.declared.question.Question.{Question}
-use Rattle.queries.specs.Mds.{asked_by}
 use Rattle.queries.specs.Question.{verdict_on}
 use Rattle.queries.specs.Remarks.{asked_of, others_on}
 use Rattle.queries.specs.AnyPath.{HasSmall}
@@ -47,16 +46,26 @@ IsTellable told = Unit {0}
 abbrev pub HasLines : Item → Type 0
 HasLines item = (item.0 < 2 ^ 64) × IsTellable item.1
 
--- its names are bytes, and its numbers fit
-abbrev pub IsAskableIf : Told → Type 0
-IsAskableIf (answered q grants) = IsAskable (asked_of q)
-IsAskableIf (judged_by a answer) = HasSmallNumbers a.access × IsAskable (asked_by a.asking)
-IsAskableIf (pathless caller access any) = HasSmallNumbers access
-IsAskableIf (unknown mask) = IsBytes mask
-IsAskableIf told = Unit {0}
+-- the numbers of what is asked fit
+abbrev pub AsksFitting : Told → Type 0
+AsksFitting (answered q grants) = HasNumber q.access × (q.attr.mode < 2 ^ 12)
+AsksFitting (judged_by a answer) = HasSmallNumbers a.access × HasNumber a.asking.access × (a.asking.attr.mode < 2 ^ 12)
+AsksFitting (pathless caller access any) = HasSmallNumbers access
+AsksFitting told = Unit {0}
 
+-- and so do all in its object
 abbrev pub HasObject : Item → Type 0
-HasObject item = IsAskableIf item.1 × HasWholeNumbers (object_value item.0 item.1)
+HasObject item = AsksFitting item.1 × HasWholeNumbers (object_value item.0 item.1)
+
+-- its names are bytes
+abbrev pub NamesAreBytes : Told → Type 0
+NamesAreBytes (answered q grants) = IsBytes (path_text q.path) × IsBytes q.fs
+NamesAreBytes (judged_by a answer) = IsBytes (path_text a.asking.path) × IsBytes a.asking.fs
+NamesAreBytes (unknown mask) = IsBytes mask
+NamesAreBytes told = Unit {0}
+
+abbrev pub HasBytes : Item → Type 0
+HasBytes item = NamesAreBytes item.1
 
 -- the same access is asked for at the same path, and the same is said to that and beside it, by the texts of the grants
 abbrev pub AnswerAlike : Question → List ℕ → Question → List ℕ → Type 0
@@ -85,12 +94,12 @@ abbrev pub OneLog : Type 0
 OneLog = (xs ys : List Item) (m n : ℕ) → All HasLines xs → All HasLines ys → m < 2 ^ 64 → n < 2 ^ 64
     → reported_in Lines xs m ≡ reported_in Lines ys n → AllZip SameOfLine xs ys × (m ≡ n)
 
--- and so do objects
+-- and so do objects, where names are bytes
 abbrev pub OneLogOfObjects : Type 0
-OneLogOfObjects = (xs ys : List Item) (m n : ℕ) → All HasObject xs → All HasObject ys → m < 2 ^ 64 → n < 2 ^ 64
+OneLogOfObjects = (xs ys : List Item) (m n : ℕ) → All HasObject xs → All HasObject ys → All HasBytes xs → All HasBytes ys → m < 2 ^ 64 → n < 2 ^ 64
     → reported_in Objects xs m ≡ reported_in Objects ys n → AllZip SameOfLine xs ys × (m ≡ n)
 
 -- what is told of a log that is not too long, and not counted, is such things
-abbrev pub EachHasItsLines : Type 0
-EachHasItsLines = (scope : Scope) (log reported : List ℕ) (judged : Bool) → scope.counts ≡ false → length log < 2 ^ 62 → IsReportOf scope log reported judged
-    → (xs : List Item) × (passed : ℕ) × All HasLines xs × (passed < 2 ^ 64) × (reported ≡ reported_in scope.shape xs passed)
+abbrev pub EachHasItsText : Type 0
+EachHasItsText = (scope : Scope) (log reported : List ℕ) (judged : Bool) → scope.counts ≡ false → length log < 2 ^ 62 → IsReportOf scope log reported judged
+    → (xs : List Item) × (passed : ℕ) × All HasLines xs × All HasObject xs × (passed < 2 ^ 64) × (reported ≡ reported_in scope.shape xs passed)

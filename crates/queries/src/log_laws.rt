@@ -6,13 +6,13 @@ ghost use Rattle.serde_json.specs.Written.{compact_text};
 ghost use Rattle.texts.specs.declared.shape.Shape.TheVariants.{Objects};
 ghost use Rattle.texts.specs.Values.{json_line};
 ghost use Rattle.queries.specs.Counts.{count_value, counted_in};
-ghost use Rattle.queries.specs.Items.{EachHasItsLines, OneLog, OneLogOfObjects};
+ghost use Rattle.queries.specs.Items.{EachHasItsText, OneLog, OneLogOfObjects};
 ghost use Rattle.queries.specs.WrittenChecks.{CheckReadsBack, HeadReadsBack};
 
 /// What is told of a log is one thing after the other: answers, with all that is worth a word beside them, and why a check has none.
 /// Two logs of which other things are told, or of other lines, have two texts, by lines and by objects; so no name in a path can forge an answer.
 pub fn one_text_for_what_is_reported()
-    ensures things { EachHasItsLines }
+    ensures things { EachHasItsText }
     ensures reported { OneLog }
     ensures objects { OneLogOfObjects }
 {}

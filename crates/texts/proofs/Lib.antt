@@ -14,6 +14,7 @@ pub mod Plain
 pub mod Spelling
 pub mod Streams
 pub mod WholeNumbers
+pub mod WholeObjects
 pub mod Distinct
 pub mod JsonClients
 pub mod JsonLinted
