@@ -14,7 +14,7 @@ C_BUILT = ROOT / "out" / "c"
 LIBRARY = C_BUILT / "libbaybowl.a"
 
 # The crates that make the step of the core; those below each know one thing.
-CORE = ["capcore", "capstep"]
+CORE = ["capcore", "step_acts", "capstep"]
 # A part of crates.txt, and the one of what no program of users is made of.
 HEADING = re.compile(r"# ([A-Z][\w ]*)$")
 BESIDE = "Measured and tested"

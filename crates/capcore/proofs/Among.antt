@@ -6,7 +6,7 @@ use Rattle.std.proofs.lemmas.Bool.{eqb-true, false_from_ne_true}
 use Rattle.std.specs.Cmp.{nat_cmp_total, unsigned_tied}
 use Rattle.std.specs.Ordering.{eq_by_cmp, nat_cmp}
 use Rattle.std.specs.FinSet as set
-use Rattle.capstep.proofs.InoSets.{added, at_more, none-there}
+use Rattle.step_acts.proofs.InoSets.{added, at_more, none-there}
 use Rattle.capcore.proofs.CommonPieces.{EntryRow, InoSet, Widens, second_true}
 
 -- ---- one inode

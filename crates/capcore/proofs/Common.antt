@@ -69,9 +69,9 @@ pub use Rattle.capcore.specs.declared.entry_request.EntryRequest.{EntryRequest}
 pub use Rattle.capcore.specs.declared.entry_request.EntryRequest.TheVariants.{Ack, Release}
 pub use Rattle.capcore.specs.declared.step_reply.StepReply.{StepReply}
 pub use Rattle.capcore.specs.declared.settle.Affected.{Affected}
-pub use Rattle.capstep.proofs.Again.{rejection-before}
-pub use Rattle.capstep.specs.Known.{AreKnown, ClientViews, StillKnown, known_in, known_of}
-pub use Rattle.capstep.specs.Left.{dropped_by, locks_left, messages_left, table_left}
+pub use Rattle.capstep.proofs.Rejecting.{rejection-before}
+pub use Rattle.step_acts.specs.Known.{AreKnown, ClientViews, StillKnown, known_in, known_of}
+pub use Rattle.step_acts.specs.Left.{dropped_by, locks_left, messages_left, table_left}
 pub use Rattle.capstep.specs.OperationRefs.{operation_of}
 pub use Rattle.capstep.specs.Replies.{has_list, outcome_reply}
 pub use Rattle.capstep.specs.Clients.{session_event}

@@ -40,14 +40,14 @@ pub use Rattle.locktable.specs.declared.states.StableState.{StableState}
 pub use Rattle.locktable.specs.declared.states.StableState.TheVariants.{Sync}
 pub use Rattle.sessiontab.specs.Calls.{has_session}
 pub use Rattle.sessiontab.specs.Table.{SessionTable}
-pub use Rattle.capstep.proofs.Held.{or_inside}
-pub use Rattle.capstep.proofs.KeptSets.{found-stays, kept-as, kept-nobody, kept-none, kept-not, kept-same, kept-then, was-there}
-pub use Rattle.capstep.proofs.Renewed.{found-contains}
-pub use Rattle.capstep.proofs.Walked.{second_true}
-pub use Rattle.capstep.specs.Finishing.{clients_of, entry_by, entry_under, numbered_as, pending_at, pending_by}
-pub use Rattle.capstep.specs.Known.{AreKnown, ClientViews, KnownAnew, OthersHaveAll, StillKnown, is_still_known, known_anew, known_in, known_of, permitted_of}
-pub use Rattle.capstep.specs.AffectedInodes.{AreWalked, Covers, IsWidenedBy, Widens}
-pub use Rattle.capstep.specs.Served.{is_rename}
+pub use Rattle.step_acts.proofs.Held.{or_inside}
+pub use Rattle.step_acts.proofs.KeptSets.{found-stays, kept-as, kept-nobody, kept-none, kept-not, kept-same, kept-then, was-there}
+pub use Rattle.step_acts.proofs.Renewed.{found-contains}
+pub use Rattle.step_acts.proofs.Walked.{second_true}
+pub use Rattle.step_acts.specs.Finishing.{clients_of, entry_by, entry_under, numbered_as, pending_at, pending_by}
+pub use Rattle.step_acts.specs.Known.{AreKnown, ClientViews, KnownAnew, OthersHaveAll, StillKnown, is_still_known, known_anew, known_in, known_of, permitted_of}
+pub use Rattle.step_acts.specs.AffectedInodes.{AreWalked, Covers, IsWidenedBy, Widens}
+pub use Rattle.step_acts.specs.Served.{is_rename}
 pub use Rattle.capstep.specs.declared.event.Event.{Event}
 pub use Rattle.capstep.specs.declared.event.OpenMode.{OpenMode}
 pub use Rattle.capstep.specs.declared.outcome.Ended.{Ended}

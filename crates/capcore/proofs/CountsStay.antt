@@ -12,7 +12,7 @@ use Rattle.capbits.specs.Caps.{has}
 use Rattle.capbits.specs.Sets.{no_caps}
 use Rattle.captable.proofs.Counting.{bit, with_change}
 use Rattle.captable.proofs.Tally.{passes_found, tally, tally-changed, tally-first, tally-more, tally-without}
-use Rattle.capstep.proofs.GivenUp.{nothing_outside}
+use Rattle.step_acts.proofs.GivenUp.{nothing_outside}
 use Rattle.lockmachine.specs.Counts.{AreCountedAt, IsCounted, count_at, count_of, given_up, holders_outside}
 use Rattle.lockmachine.specs.Inodes.{CountMap, is_gathering}
 use Rattle.capcore.proofs.CommonPieces.{A, AreCounted, Cap, Caps, ChangesLocksOf, CountedLocks, Entry, EntryRow, F, Gather, Holder, Ino, InodeLocks, IsSubset, L}

@@ -6,7 +6,7 @@ use Rattle.captable.specs.Table.{entry_of}
 use Rattle.capcore.proofs.Knowing.{still-known}
 use Rattle.capcore.proofs.SizesOwed.{sizes-known}
 use Rattle.capcore.specs.Affected.{pending_then}
-use Rattle.capstep.specs.Known.{KnownAnew}
+use Rattle.step_acts.specs.Known.{KnownAnew}
 use Rattle.lockmachine.specs.Scene.{pending_of}
 use Rattle.capcore.proofs.Common.{Affects, AreKnown, ClientViews, Ended, EndsWith, EntryRow, Ino, IsSound, IsTable, Knows, Scene, SettlesWith, State}
 use Rattle.capcore.proofs.Common.{StillKnown, finished_at, known_in, known_of, row_elsewhere, sizes_owed}

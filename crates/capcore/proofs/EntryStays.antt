@@ -7,8 +7,8 @@ use Rattle.capbits.specs.Caps.{has}
 use Rattle.capbits.specs.Sets.{no_caps}
 use Rattle.captable.specs.Kept.{KeptRow, is_kept_of, kept_without}
 use Rattle.captable.specs.declared.entry.ClientView.{ClientView}
-use Rattle.capstep.proofs.Opened.{apart-of, kept-itself}
-use Rattle.capstep.specs.Known.{StillKept, sets_of}
+use Rattle.step_acts.proofs.Opened.{apart-of, kept-itself}
+use Rattle.step_acts.specs.Known.{StillKept, sets_of}
 use Rattle.capcore.proofs.CommonPieces.{AreKnown, ClientViews, Entry, Holder, IsSound, IsSoundEntry, IsSubset, OpenMode, OthersHaveAll, P, Scene}
 use Rattle.capcore.proofs.CommonPieces.{State, StillKnown, Table, caps_in, changed, entry_at, entry_at-opened, entry_at-opened_other, entry_at-without, entry_of}
 use Rattle.capcore.proofs.CommonPieces.{find-filter_kept, has-caps_in, has-minus, has-none, has-union, is_row_of, new_entry, opened}

@@ -8,7 +8,7 @@ use Rattle.captable.specs.Calls.{touched}
 use Rattle.capcore.proofs.EntryRequests.{after-passed, before-passed}
 use Rattle.lockmachine.proofs.SameBut.{same-entries, same-trans, same-tree}
 use Rattle.capcore.proofs.OneChange.{alike_change, by_change}
-use Rattle.capstep.specs.Served.{change_call_tests}
+use Rattle.step_acts.specs.Served.{change_call_tests}
 use Rattle.capstep.specs.Changing.{tree_changed}
 use Rattle.lockmachine.specs.Elsewhere.{IsSameBut}
 use Rattle.lockmachine.specs.declared.request.Change.{Change}

@@ -4,7 +4,7 @@ use Rattle.std.proofs.lemmas.Bool.{and_right, false_from_ne_true, false≢true}
 use Rattle.std.specs.Option.{option_map_or, unwrap_or}
 use Rattle.capbits.specs.Caps.{has}
 use Rattle.capbits.specs.Sets.{no_caps}
-use Rattle.capstep.proofs.KeptSets.{made-there}
+use Rattle.step_acts.proofs.KeptSets.{made-there}
 use Rattle.capcore.proofs.CommonPieces.{AreKnown, Caps, ClientViews, Entry, EntryRow, Holder, IsSubset, IsTable, Scene, StillKnown, Table, changed_where, entry_at}
 use Rattle.capcore.proofs.CommonPieces.{entry_of, has-against, has-meet, has-minus, has-none, has-pending, is_revoked, is_still_known, known_in, known_of, meet, minus}
 use Rattle.capcore.proofs.CommonPieces.{pending-less, pending_of, remade, revoked_of, row_found, same_caps}

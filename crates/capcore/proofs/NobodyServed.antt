@@ -4,7 +4,7 @@ use Rattle.std.specs.List.{find}
 use Rattle.std.specs.Option.{unwrap_or}
 use Rattle.std.specs.FinMap as map
 use Rattle.capbits.specs.Sets.{no_caps}
-use Rattle.capstep.specs.Finishing.{pending_under}
+use Rattle.step_acts.specs.Finishing.{pending_under}
 use Rattle.capcore.proofs.CommonPieces.{Began, Caps, ClientViews, Ended, EntryRow, Gathered, Holder, Ino, IsSubset, IsTree, LockMap, Made, MakesAll, OthersHaveAll}
 use Rattle.capcore.proofs.CommonPieces.{Scene, Served, SessionTable, Table, changed_where, ended_in, has_session, is_row_of, is_sized, issuable_under, known_anew}
 use Rattle.capcore.proofs.CommonPieces.{known_in, known_of, owed, permitted, permitted-stays, permitted_of, row_of-entry, sized_in, sizes_owed, was-there}

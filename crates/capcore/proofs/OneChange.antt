@@ -1,5 +1,5 @@
 -- What a request that is served leaves of the tree.
-pub use Rattle.capstep.proofs.Renewed.{alike_change}
+pub use Rattle.step_acts.proofs.Renewed.{alike_change}
 use Rattle.std.proofs.Common.{◌≡◌, ◌≢◌, ℕ, true, false, None, ◌⊎◌, inl, inr, refl, subst, arith}
 use Rattle.std.specs.FinMap as map
 use Rattle.capbits.proofs.Tests.{pass-both}
@@ -7,7 +7,8 @@ use Rattle.inotree.proofs.Moving.{changed-within, moved-alike, moved-tree, moved
 use Rattle.inotree.proofs.OneInode.{alike-unlinked, childless-empty, childless-file, presence-other, sound-attribute, sound-no-attribute, sound-rmdir}
 use Rattle.inotree.proofs.OneInode.{sound-setting, sound-unlink}
 use Rattle.inotree.specs.Calls.{changed}
-use Rattle.capstep.proofs.Again.{passed-all, stays-or-makes}
+use Rattle.capstep.proofs.Rejecting.{passed-all}
+use Rattle.step_acts.proofs.Again.{stays-or-makes}
 use Rattle.capstep.specs.Changing.{tree_changed}
 use Rattle.capstep.specs.Operations.{change_tests, operation_after, operation_before, operation_needs}
 use Rattle.capstep.specs.Serving.{MayEndAs}

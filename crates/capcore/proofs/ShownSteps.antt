@@ -28,7 +28,7 @@ use Rattle.capcore.proofs.CommonPieces.{judged, minus, no_entry, number_row, ope
 use Rattle.capcore.proofs.CommonPieces.{revoked_of, row_found, row_messages, row_of-entry, same, same-is, same_caps, same_holder, shown, sized_if, sized_in}
 use Rattle.capcore.proofs.CommonPieces.{sizes_owed, state_after, still_known, test_at, told_if, touched, unasked_if, with_asked, with_entry, with_size_due}
 use Rattle.capcore.proofs.CommonPieces.{with_told, without, without_acked, without_released}
-use Rattle.capstep.proofs.Opened.{apart-of}
+use Rattle.step_acts.proofs.Opened.{apart-of}
 use Rattle.capcore.proofs.EndsThere.{held-renumbered}
 use Rattle.capcore.proofs.SoundEnd.{sound-ends}
 use Rattle.capcore.proofs.LeftAlone.{found-contains}

@@ -12,7 +12,7 @@ use Rattle.captable.proofs.Tables.{same-is}
 use Rattle.captable.specs.Calls.{acked, changed, has_pin, released, with_asked, with_entry, without, without_acked}
 use Rattle.captable.specs.Tests.{test_at}
 use Rattle.lockmachine.proofs.Pending.{has-against, has-pending, pin-takes_all}
-use Rattle.capstep.proofs.Opened.{apart-of}
+use Rattle.step_acts.proofs.Opened.{apart-of}
 use Rattle.capcore.proofs.Placed.{pending-permitted}
 use Rattle.capcore.proofs.Revoking.{pin-goes, revoked-found}
 use Rattle.capcore.proofs.ShownSteps.{at, entry_at-entry_other}

@@ -25,7 +25,7 @@ use Rattle.capcore.proofs.SameOff.{off-refl, off-trans, off-wider}
 use Rattle.capcore.proofs.Sweeping.{still-stays}
 use Rattle.capcore.specs.Affected.{IsSameOff}
 use Rattle.capcore.specs.Serves.{Serves, SettlesWith}
-use Rattle.capstep.specs.Served.{changed_alone}
+use Rattle.step_acts.specs.Served.{changed_alone}
 use Rattle.capcore.specs.Sweep.{AreStill, IsCursorAtTheLeast, IsFirstPlace, IsSwept, StandsAt}
 use Rattle.capcore.specs.declared.settle.SweepPlace.{SweepPlace}
 

@@ -1,5 +1,5 @@
 -- In a sound state the end of a step changes nothing.
-pub use Rattle.capstep.proofs.Held.{same-renumbered}
+pub use Rattle.step_acts.proofs.Held.{same-renumbered}
 use Rattle.std.proofs.Common.{◌≡◌, ℕ, suc, Bool, true, cond, not, ◌||◌, Some, None, List, [], ◌∷◌, refl, sym, ap, ◌∙◌, Contains, arith, map}
 use Rattle.std.proofs.lemmas.List.{map-id}
 use Rattle.std.proofs.lemmas.List.Elements.{All-contains}

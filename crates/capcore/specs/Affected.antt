@@ -22,7 +22,7 @@ use Rattle.capstep.specs.declared.event.Event.{Event}
 use Rattle.capstep.specs.Finish.{is_in_use, issuable, issue_row}
 use Rattle.capstep.specs.Settle.{Made, Settles}
 use Rattle.capstep.specs.State.{State}
-use Rattle.capstep.specs.Finishing.{numbered_as}
+use Rattle.step_acts.specs.Finishing.{numbered_as}
 use Rattle.lockmachine.specs.Elsewhere.{IsSameBut, IsSameOutside}
 use Rattle.lockmachine.specs.Locks.{lock_at, without_ino}
 use Rattle.lockmachine.specs.Requests.{first_for}

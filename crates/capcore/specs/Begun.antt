@@ -3,7 +3,7 @@ use Rattle.std.specs.Prelude.{◌≡◌, ◌≤◌, ◌<◌, ◌^◌, ◌-◌, �
 use Rattle.std.specs.FinSet as set
 use Rattle.sessiontab.specs.Calls.{has_session}
 use Rattle.capstep.specs.NotedChanges.{HavePlaces, Noted}
-use Rattle.capstep.specs.Known.{ClientViews, OthersHaveAll}
+use Rattle.step_acts.specs.Known.{ClientViews, OthersHaveAll}
 use Rattle.lockmachine.specs.Counts.{AreCounted}
 use Rattle.lockmachine.specs.Locks.{IsLockMap}
 use Rattle.lockmachine.specs.Moves.{IsAtRestOutside}

@@ -9,7 +9,7 @@ use Rattle.capstep.specs.Changing.{tree_after}
 use Rattle.capstep.specs.Finish.{sizes_owed}
 use Rattle.capstep.specs.Serving.{MayEndAs}
 use Rattle.capstep.specs.Settle.{Made, ended_in, sized_in}
-use Rattle.capstep.specs.Known.{ClientViews, KnownAnew, known_in, permitted_of}
+use Rattle.step_acts.specs.Known.{ClientViews, KnownAnew, known_in, permitted_of}
 use Rattle.lockmachine.specs.Locks.{request_at, without_request}
 use Rattle.lockmachine.specs.Scene.{Scene}
 use Rattle.lockmachine.specs.declared.request.Request.{Request}

@@ -14,7 +14,7 @@ use Rattle.capstep.specs.NotedChanges.{view}
 use Rattle.capstep.specs.State.{State}
 use Rattle.policy_view.specs.Changes.{AreChanges}
 use Rattle.policy_view.specs.declared.change.ViewChange.{ViewChange}
-use Rattle.capstep.specs.Left.{locks_left, messages_left, table_left}
+use Rattle.step_acts.specs.Left.{locks_left, messages_left, table_left}
 use Rattle.lockmachine.specs.Locks.{LockMap}
 use Rattle.lockmachine.specs.Requests.{is_of_client as is_asked_by}
 use Rattle.lockmachine.specs.declared.request.Request.{Request}

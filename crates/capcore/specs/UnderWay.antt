@@ -5,7 +5,7 @@ use Rattle.capbits.specs.declared.ids.Ino.{Ino}
 use Rattle.captable.specs.Table.{IsTable}
 use Rattle.capcore.specs.Affected.{Affects, Knows}
 use Rattle.capcore.specs.Begun.{AreCountedIn, ArePermittedIn, IsReady, among}
-use Rattle.capstep.specs.Known.{AreKnown, ClientViews, StillKnown, known_in}
+use Rattle.step_acts.specs.Known.{AreKnown, ClientViews, StillKnown, known_in}
 use Rattle.capstep.specs.declared.operations.OperationRef.{OperationRef}
 use Rattle.capstep.specs.declared.operations.OperationRef.TheVariants.{Alter, Get, Rename, Rmdir, Unlink}
 use Rattle.capstep.specs.Clients.{session_event}

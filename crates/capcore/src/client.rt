@@ -5,7 +5,7 @@ ghost use Rattle.captable.specs.Calls.{is_of_client};
 ghost use Rattle.captable.specs.declared.entry.EntryRow.{EntryRow};
 ghost use Rattle.lockmachine.specs.Requests.{is_of_client as is_asked_by};
 ghost use Rattle.lockmachine.specs.declared.request.Request.{Request};
-ghost use Rattle.capstep.specs.AffectedInodes.{Widens};
+ghost use Rattle.step_acts.specs.AffectedInodes.{Widens};
 ghost use Rattle.capcore.specs.Begun.{HaveRoomFor};
 ghost use Rattle.capcore.specs.SessionChange.{HasInodesOf, Notes};
 

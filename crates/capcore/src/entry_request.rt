@@ -9,7 +9,7 @@ ghost use Rattle.captable.specs.declared.entry.Entry.{Entry};
 ghost use Rattle.capstep.specs.Direct.{reply_of, shown, with_table};
 ghost use Rattle.capstep.specs.Judge.{revoked_of};
 ghost use Rattle.capstep.specs.State.{State};
-ghost use Rattle.capstep.specs.Known.{AreKnown, StillKept, known_in};
+ghost use Rattle.step_acts.specs.Known.{AreKnown, StillKept, known_in};
 ghost use Rattle.lockmachine.specs.Counts.{AreCounted};
 ghost use Rattle.lockmachine.specs.Scene.{Scene, plain};
 ghost use Rattle.capstep.specs.Direct as effects;
@@ -17,11 +17,11 @@ ghost use Rattle.capcore.specs.Begun.{AreCountedIn};
 ghost use Rattle.capcore.specs.EntryRequest as words;
 
 use capbits::{Cap, CapSet};
-use capstep::opening::find_or_open;
 use capstep::{OpenMode, Reply};
 use captable::{CapTable, EntryRow, Holder};
 use lockmachine::{KeptScene, Locks};
 use std::alloc::AllocError;
+use step_acts::opening::find_or_open;
 
 /// A request of a client on its entry on an inode.
 #[derive(Clone, Copy)]

@@ -8,10 +8,10 @@ ghost use Rattle.captable.specs.Table.{IsTable};
 ghost use Rattle.captable.specs.declared.entry.Holder.{Holder};
 ghost use Rattle.sessiontab.specs.Calls.{has_session};
 ghost use Rattle.capstep.specs.NotedChanges.{LeadOn};
-ghost use Rattle.capstep.specs.Known.{KnownAnew, OthersHaveAll, known_in};
+ghost use Rattle.step_acts.specs.Known.{KnownAnew, OthersHaveAll, known_in};
 ghost use Rattle.lockmachine.specs.Policy.{ArePermitted};
 ghost use Rattle.lockmachine.specs.Scene.{plain, scene_by};
-ghost use Rattle.capstep.specs.Finishing as words;
+ghost use Rattle.step_acts.specs.Finishing as words;
 ghost use Rattle.capcore.specs.Affected.{forget_among};
 ghost use Rattle.capcore.specs.Begun.{AreCountedIn, MayEnd};
 ghost use Rattle.capcore.specs.Serves.{EndsAt};
@@ -21,12 +21,12 @@ use crate::sizes::owe_sizes;
 use arrayvec::ArrayVec;
 use capbits::{ClientId, Ino};
 use capstep::ChangeList;
-use capstep::finishing::finish_row;
 use captable::{CapTable, EntryRow, Holder};
 use inotree::{NonEmptyInoSet, Presence};
 use lockmachine::{InodeLocks, KeptScene, Locks, Policy};
 use policy_view::ViewChange;
 use sessiontab::{MAX_SESSIONS, Sessions};
+use step_acts::finishing::finish_row;
 
 // ---- at the affected inodes
 

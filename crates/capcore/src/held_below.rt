@@ -3,8 +3,8 @@ ghost use Rattle.std.specs.List.{list_any};
 ghost use Rattle.std.specs.Prelude.{◌≡◌, ◌≤◌, ◌+◌, true, Contains, OnOk, OnErr};
 ghost use Rattle.std.specs.FinSet as set;
 ghost use Rattle.captable.specs.Calls.{is_of_inode};
-ghost use Rattle.capstep.specs.AffectedInodes.{AreWalked, Covers, Widens};
-ghost use Rattle.capstep.specs.Served.{is_rename};
+ghost use Rattle.step_acts.specs.AffectedInodes.{AreWalked, Covers, Widens};
+ghost use Rattle.step_acts.specs.Served.{is_rename};
 
 use capbits::Ino;
 use capstep::ChangeList;

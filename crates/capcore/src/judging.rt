@@ -3,7 +3,7 @@ ghost use Rattle.std.specs.Prelude.{◌≡◌, ◌++◌, ◌∷◌, []};
 ghost use Rattle.capbits.specs.Refusal.{first_failing};
 ghost use Rattle.inotree.specs.Tests.{exists_test, inode_tests};
 ghost use Rattle.sessiontab.specs.Tests.{connected_test, session_tests};
-ghost use Rattle.capstep.specs.Known.{AreKnown};
+ghost use Rattle.step_acts.specs.Known.{AreKnown};
 ghost use Rattle.capstep.specs.Judge.{basic_tests, before, judged, rejection_of};
 ghost use Rattle.capstep.specs.Needs.{need};
 ghost use Rattle.lockmachine.specs.Scene.{plain};

@@ -4,7 +4,7 @@ ghost use Rattle.std.specs.Prelude.{◌≡◌, ◌+◌, ◌≤◌, ◌++◌, Lis
 ghost use Rattle.captable.specs.Known.{known_of};
 ghost use Rattle.captable.specs.declared.entry.Holder.{Holder};
 ghost use Rattle.capcore.specs.Begun.{ArePermittedIn};
-ghost use Rattle.capstep.specs.Known.{AreKnown};
+ghost use Rattle.step_acts.specs.Known.{AreKnown};
 ghost use Rattle.capstep.specs.declared.outcome.Ended.{Ended as AnEnded};
 ghost use Rattle.capstep.specs.DueEndings.{HaveOwnNumbers, but_for, is_of_ticket};
 ghost use Rattle.capstep.specs.Direct.{awaited_as, reply_of, shown};
@@ -23,9 +23,6 @@ use crate::parts::{Applied, CoreState, LockEvent, ReplyDue};
 use crate::settle::Affected;
 use crate::step_reply::StepReply;
 use capbits::{ClientId, Ticket};
-use capstep::renewing::{renew_changed, renew_client};
-use capstep::serving::alter;
-use capstep::session_end::drop_client_state;
 use capstep::{Ended, EndedList, OperationRef, Recorded, Reply, copy_of_operation, copy_of_reply};
 use captable::Holder;
 use inotree::NonEmptyInoSet;
@@ -33,6 +30,9 @@ use lockmachine::{Change, KeptScene, Policy};
 use sessiontab::SessionChange;
 use std::alloc::AllocError;
 use std::mem::swap;
+use step_acts::renewing::{renew_changed, renew_client};
+use step_acts::serving::alter;
+use step_acts::session_end::drop_client_state;
 
 impl CoreState {
     // ---- the event by itself. For want of memory nothing changes, and what the last step changed stays listed

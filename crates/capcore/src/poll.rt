@@ -5,7 +5,7 @@ ghost use Rattle.captable.specs.Many.{changed_where};
 ghost use Rattle.captable.specs.Table.{IsTable};
 ghost use Rattle.capstep.specs.Messages.{after_messages, caps_messages, end_messages, first_messages, row_messages, size_messages};
 ghost use Rattle.capstep.specs.State.{State};
-ghost use Rattle.capstep.specs.Known.{AreKnown, known_in};
+ghost use Rattle.step_acts.specs.Known.{AreKnown, known_in};
 ghost use Rattle.lockmachine.specs.Scene.{Scene, pending_of};
 
 use crate::entry_request::pending_for;

@@ -9,7 +9,7 @@ ghost use Rattle.capstep.specs.Changing.{tree_after};
 ghost use Rattle.capstep.specs.Serving.{MayEndAs};
 ghost use Rattle.lockmachine.specs.Scene.{Scene};
 ghost use Rattle.lockmachine.specs.declared.request.Request.{Request};
-ghost use Rattle.capstep.specs.Served.{is_rename};
+ghost use Rattle.step_acts.specs.Served.{is_rename};
 
 /// However a request ends that is served, every other inode than its own has the same path, owner, group and mode, unless the
 /// request is to move its inode and the other lies below it; and the tree stays a tree.

@@ -15,8 +15,8 @@ ghost use Rattle.lockmachine.specs.Scene.{plain};
 ghost use Rattle.lockmachine.specs.Scene.{scene as scene_of};
 ghost use Rattle.lockmachine.specs.Cursors.{WaitAt, may_end_by};
 ghost use Rattle.lockmachine.specs.declared.request.Request.{Request};
-ghost use Rattle.capstep.specs.AffectedInodes.{AreWalked, IsWidenedBy};
-ghost use Rattle.capstep.specs.Served.{changed_alone};
+ghost use Rattle.step_acts.specs.AffectedInodes.{AreWalked, IsWidenedBy};
+ghost use Rattle.step_acts.specs.Served.{changed_alone};
 ghost use Rattle.capcore.specs.Begun.{AreCountedIn, ArePermittedIn, HaveRoomFor, IsReady, MaySettle, among};
 ghost use Rattle.capcore.specs.Judged.{IsJudged};
 ghost use Rattle.capcore.specs.Serves.{EndsWith, Serves, SettlesWith};
@@ -26,11 +26,11 @@ use crate::finish::{finish, finish_alone};
 use crate::held_below::add_held_below;
 use crate::output::StepOutput;
 use capbits::{Ino, Ticket};
-use capstep::renewing::renew_served;
-use capstep::serving::{changed_inodes, serve};
 use captable::{CapTable, Holder};
 use inotree::{InoSet, NonEmptyInoSet};
 use lockmachine::{KeptScene, Locks, Move, Policy};
+use step_acts::renewing::renew_served;
+use step_acts::serving::{changed_inodes, serve};
 
 /// Whose locks may move.
 #[derive(Drop)]

@@ -13,7 +13,6 @@ use crate::step_reply::StepReply;
 use crate::world::World;
 use capbits::{ClientId, Ino, Part, PassId};
 use capspec::FsName;
-use capstep::history::make_room;
 use capstep::stop::Stop;
 use capstep::{Event, Recorded, Reply, Row};
 use captable::Entry;
@@ -23,6 +22,7 @@ use policy_view::ViewChange;
 use sessiontab::{Session, Sessions};
 use std::alloc::{AllocError, Global};
 use std::marker::Model;
+use step_acts::history::make_room;
 
 /// The state of a metadata server's policy, with the history that led to it.
 #[derive(Debug)]

@@ -3,17 +3,5 @@ pub mod Noting
 pub mod Taking
 pub mod Twice
 mod Common
-pub mod Again
-pub mod Memory
-pub mod InoSets
+pub mod Rejecting
 pub mod Numbered
-pub mod Dropped
-pub mod Walked
-pub mod KeptSets
-pub mod Held
-pub mod Renewed
-pub mod Onward
-pub mod Walking
-pub mod Beside
-pub mod GivenUp
-pub mod Opened

@@ -23,9 +23,3 @@ pub mod Shown
 pub mod Noted
 pub mod Words
 pub mod OperationRefs
-pub mod Served
-pub mod Finishing
-pub mod Known
-pub mod AffectedInodes
-pub mod Left
-pub mod Renewing

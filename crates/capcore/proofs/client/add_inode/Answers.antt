@@ -1,4 +1,4 @@
-use Rattle.capstep.proofs.InoSets.{widens-tried}
+use Rattle.step_acts.proofs.InoSets.{widens-tried}
 use Rattle.capcore.proofs.Among.{among-tried}
 use Rattle.capcore.proofs.client.add_inode.Goals as goal
 

@@ -12,8 +12,8 @@ use Rattle.capcore.proofs.EntryStays.{kept-changed, kept-less}
 use Rattle.capcore.proofs.Revoking.{pin-goes}
 use Rattle.capcore.proofs.entry_request.apply_request.Goals.{in-Open+in_ok-before-in-Open, in-Want}
 use Rattle.capcore.specs.Begun.{AreCountedIn}
-use Rattle.capstep.proofs.Opened.{kept-itself}
-use Rattle.capstep.specs.Known.{StillKept}
+use Rattle.step_acts.proofs.Opened.{kept-itself}
+use Rattle.step_acts.specs.Known.{StillKept}
 use Rattle.capcore.specs.EntryRequest.{entry_request_tests, table_after}
 use Rattle.capcore.specs.declared.entry_request.EntryRequest.{EntryRequest}
 use Rattle.capcore.proofs.entry_request.apply_request.Goals as goal

@@ -8,7 +8,7 @@ use Rattle.std.specs.FinMap as map
 use Rattle.std.specs.FinSet as set
 use Rattle.capbits.specs.Sets.{no_caps}
 use Rattle.captable.proofs.OneByOne.{one_at_once}
-use Rattle.capstep.specs.Known.{HasAll}
+use Rattle.step_acts.specs.Known.{HasAll}
 use Rattle.capcore.proofs.CommonPieces.{AreCounted, Caps, ClientViews, Entry, EntryRow, Holder, InodeLocks, IsTable, KeptScene, KeptTable, KnownAnew, OthersHaveAll}
 use Rattle.capcore.proofs.CommonPieces.{Scene, Table, changed_by, changed_where, entry_at, entry_of, entry_under, find_passes, found-contains, is_row_of, kept-as}
 use Rattle.capcore.proofs.CommonPieces.{kept-none, known_anew, known_in, known_of, meet, none_found, permitted_of, plain, remade, renumbered, row_found}

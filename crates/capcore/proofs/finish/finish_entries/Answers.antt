@@ -9,7 +9,7 @@ use Rattle.std.proofs.lemmas.Map.Keys.{IsDistinct-from_apart, apart_from_distinc
 use Rattle.std.specs.List.{IsDistinct, find, fold}
 use Rattle.std.specs.Option.{unwrap_or}
 use Rattle.capbits.specs.Sets.{no_caps}
-use Rattle.capstep.proofs.KeptSets.{kept-on, not-yet}
+use Rattle.step_acts.proofs.KeptSets.{kept-on, not-yet}
 use Rattle.capcore.proofs.AtEnd.{distinct-on, named, named-clients}
 use Rattle.capcore.proofs.CommonPieces.{Caps, ClientViews, Entry, EntryRow, Holder, KnownAnew, Table, changed, changed_by, changed_where, entries_on, issuable_under}
 use Rattle.capcore.proofs.CommonPieces.{entry_at, entry_of, entry_under, filter-contains, fold-changed_by, fold-on_inode, found-contains, found-stays, holder}

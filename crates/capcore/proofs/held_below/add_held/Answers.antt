@@ -3,10 +3,10 @@ use Rattle.std.specs.List.{AllWithin}
 use Rattle.std.specs.FinSet as set
 use Rattle.capstep.specs.NotedChanges.{Noted}
 use Rattle.capcore.proofs.CommonPieces.{EntryRow, Ino, InoSet}
-use Rattle.capstep.proofs.InoSets.{added, few-tried, widens-tried}
-use Rattle.capstep.proofs.Walked.{IsAdded, added-more}
+use Rattle.step_acts.proofs.InoSets.{added, few-tried, widens-tried}
+use Rattle.step_acts.proofs.Walked.{IsAdded, added-more}
 use Rattle.capcore.proofs.held_below.add_held.Goals.{else-is_held, then-is_held+in_ok-add_place+in_ok-insert}
-use Rattle.capstep.specs.AffectedInodes.{Widens}
+use Rattle.step_acts.specs.AffectedInodes.{Widens}
 use Rattle.capcore.proofs.held_below.add_held.Goals as goal
 
 pub loop-ino-preserved : goal.loop-ino-preserved

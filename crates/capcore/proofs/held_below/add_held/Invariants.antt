@@ -1,8 +1,8 @@
 use Rattle.std.proofs.Common.{◌≡◌, ◌≤◌, ◌+◌}
 use Rattle.std.specs.List.{AllWithin}
 use Rattle.std.specs.FinSet as set
-use Rattle.capstep.proofs.Walked.{IsAdded}
-use Rattle.capstep.specs.AffectedInodes.{Widens}
+use Rattle.step_acts.proofs.Walked.{IsAdded}
+use Rattle.step_acts.specs.AffectedInodes.{Widens}
 use Rattle.capcore.proofs.held_below.add_held.Given as goal
 
 abbrev pub invariant-loop-ino : goal.invariant-loop-ino

@@ -1,7 +1,7 @@
 use Rattle.std.proofs.Common.{sym, subst, List, Contains, ◌∙◌}
 use Rattle.capcore.proofs.CommonPieces.{Ino}
-use Rattle.capstep.proofs.Walked.{IsAdded, covers-listed, walked-tried, walked-wider}
-use Rattle.capstep.specs.AffectedInodes.{CoversBelow}
+use Rattle.step_acts.proofs.Walked.{IsAdded, covers-listed, walked-tried, walked-wider}
+use Rattle.step_acts.specs.AffectedInodes.{CoversBelow}
 use Rattle.capcore.proofs.held_below.add_held_below.Goals as goal
 
 pub returns-then-contains-clause-covers : goal.returns-then-contains-clause-covers

@@ -1,5 +1,5 @@
 use Rattle.std.proofs.Common.{[], ◌∷◌, None, sym, ap, ◌∙◌}
-use Rattle.capstep.proofs.Again.{denial-rejection}
+use Rattle.capstep.proofs.Rejecting.{denial-rejection}
 use Rattle.capcore.proofs.Common.{Scene, basic_tests, first_denied, need, plain, rejection-before, rejection_by}
 use Rattle.capcore.proofs.judging.access_rejection.Goals as goal
 

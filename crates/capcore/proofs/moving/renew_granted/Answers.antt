@@ -1,5 +1,5 @@
 use Rattle.std.proofs.Common.{◌≡◌, ◌==◌, ◌&&◌, is_some, true, false, Some, refl, sym, ap, ◌∙◌}
-use Rattle.capstep.specs.Renewing.{has_entry}
+use Rattle.step_acts.specs.Renewing.{has_entry}
 use Rattle.capcore.proofs.Common.{KeptScene, permitted, permitted_of, plain}
 use Rattle.capcore.proofs.Granted.{kept-permitted, other-permitted}
 use Rattle.capcore.proofs.moving.renew_granted.Goals as goal

@@ -4,7 +4,7 @@ use Rattle.std.proofs.lemmas.Bool.{eqb-true}
 use Rattle.std.specs.List.{filter_map}
 use Rattle.std.specs.Option.{option_eq}
 use Rattle.capbits.specs.contracts.ids.TicketPartialEq.TheImpl as tickets
-use Rattle.capstep.specs.Renewing.{ServedFrom}
+use Rattle.step_acts.specs.Renewing.{ServedFrom}
 use Rattle.capcore.proofs.CommonPieces.{AreCounted, ArePermitted, CountedLocks, Covers, Ended, Ino, InoSet, IsAlike, KeptScene, Nodes, Outcome, Request, Scene}
 use Rattle.capcore.proofs.CommonPieces.{Served, Table, Ticket, known_of, plain, sized_by}
 use Rattle.capcore.proofs.OneChange.{alike-apart}

@@ -3,7 +3,7 @@ use Rattle.std.proofs.Common.{subst, ◌∙◌, arith, inl, inr}
 use Rattle.std.proofs.lemmas.List.{length-append}
 use Rattle.std.specs.List.{filter_map}
 use Rattle.std.specs.FinSet as set
-use Rattle.capstep.proofs.Walked.{none-walked}
+use Rattle.step_acts.proofs.Walked.{none-walked}
 use Rattle.capstep.specs.Settle.{is_done, sets_size}
 use Rattle.capcore.proofs.CommonPieces.{AreWalked, Covers, Ended, Ino, InoSet, IsLockMap, IsTree, IsWidenedBy, KeptScene, LeadOn, Nodes, Outcome, Request}
 use Rattle.capcore.proofs.CommonPieces.{Scene, Serve, Served, Table, ends_not, first_move, known_of, leads-none, leads-then, lock_at, plain, request_at}

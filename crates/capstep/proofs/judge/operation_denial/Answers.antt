@@ -4,7 +4,7 @@ use Rattle.capgrant.specs.declared.access.Access.TheVariants.{Read, Write}
 use Rattle.inotree.specs.Tree.{parent}
 use Rattle.capstep.specs.Needs.{need_if}
 use Rattle.lockmachine.specs.Scene.{plain}
-use Rattle.capstep.proofs.Again.{denied-first}
+use Rattle.capstep.proofs.Rejecting.{denied-first}
 use Rattle.capstep.proofs.Common.{Access, Holder, Ino, Need, Rejection, Scene, denial_of, need, operation_needs, rejection_of}
 use Rattle.capstep.proofs.judge.operation_denial.Goals.{in-Alter, in-Get, in-Rename, in-Unlink}
 use Rattle.capstep.specs.OperationRefs.{operation_of}

@@ -3,7 +3,7 @@ use Rattle.std.specs.Option.{option_map}
 use Rattle.inotree.specs.Tests.{new_site_tests}
 use Rattle.capstep.specs.declared.rejection.Rejection.TheVariants.{ByTest}
 use Rattle.lockmachine.specs.Scene.{plain}
-use Rattle.capstep.proofs.Again.{rejection-after, rejection-before, rejection-denied}
+use Rattle.capstep.proofs.Rejecting.{rejection-after, rejection-before, rejection-denied}
 use Rattle.capstep.proofs.Common.{Refusal, Scene, first_failing, operation_after, operation_before, operation_needs}
 use Rattle.capstep.proofs.judge.operation_rejection.Goals.{in-Alter, in-Get, in-Rename, in-Rmdir, in-Unlink}
 use Rattle.capstep.specs.OperationRefs.{operation_of}

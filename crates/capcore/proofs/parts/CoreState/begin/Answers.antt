@@ -2,7 +2,7 @@ use Rattle.std.proofs.Common.{◌≡◌, length, refl, sym, ap, subst, arith}
 use Rattle.capcore.proofs.EntryStays.{others-have_all, request-less}
 use Rattle.capcore.proofs.EntryRequests.{affects-of_request, below-of_request, effect-affected, keeps-of_request}
 use Rattle.capcore.specs.Begun.{AreCountedIn}
-use Rattle.capstep.specs.Known.{StillKept}
+use Rattle.step_acts.specs.Known.{StillKept}
 use Rattle.capcore.specs.EntryRequest.{table_after}
 use Rattle.capcore.proofs.Begun.{on_err, one-begun}
 use Rattle.capcore.proofs.Common.{Affected, Event, Holder, Scene, State, StepOutput, changes-still, effect, effect_unless, entry_event, none-judged, plain}

@@ -1,8 +1,0 @@
--- Which requests take memory.
-use Rattle.std.proofs.Common.{◌≡◌, true, arith}
-use Rattle.capstep.proofs.Common.{Operation, takes_memory}
-use Rattle.capstep.specs.Served.{is_rename}
-
--- one that is to move an inode does, for the name
-pub rename-takes : (operation : Operation) → is_rename operation ≡ true → takes_memory operation ≡ true
-rename-takes operation is = grind arith
