@@ -3,8 +3,8 @@
 It counts instructions, by callgrind: of a short run of each workload of bench/workloads.txt; of one verdict, one reading of a text and
 one call of the library for C, as `count policy` and `count library` do; of the lines of an opening, a round with a revocation, a move and a
 change of a size, beside few inodes and beside many, as `count entries` and `count holders` do; of a question on policy on such trees, in the
-thread that asks, beside one that changes modes; and of single lines at their dearest, as `count dearest` does. The bound is 5 percent
-above. Of the workloads as they stand in bench/workloads.txt it tells the most memory that each had (VmHWM, by gdb), in kB, with a
+thread that asks, beside one that changes modes; of the first call of a pass behind a short and a long history of another; and of single
+lines at their dearest, as `count dearest` does. The bound is 5 percent above. Of the workloads as they stand in bench/workloads.txt it tells the most memory that each had (VmHWM, by gdb), in kB, with a
 bound of 10 percent. Where another kit built what is counted, and not one that is known to build alike, it may be five times as far
 above.
 
@@ -21,7 +21,7 @@ from concurrent.futures import ThreadPoolExecutor
 from dataclasses import dataclass
 from functools import partial
 
-from . import ab, capbench, count_entries, count_holders, count_library, count_policy, counting, dearest, scripted
+from . import ab, capbench, count_entries, count_holders, count_library, count_policy, counting, dearest, passes, scripted
 from .places import BENCH, CAPBENCH, CAPD, CRATES
 
 KEPT = BENCH / "guard.txt"
@@ -36,6 +36,8 @@ VERBS = {"open": "line-open", "revoke": "lines-revoke", "rename": "line-rename"}
 BESIDE = (100, 10000)
 # How many clients cache the file whose size is changed.
 CACHING = 10
+# How many rows of another pass stand before the first call of one.
+BEHIND = (1000, 16000)
 # How many questions the thread that asks has in the two runs whose difference is counted.
 ASKED = (1000, 5000)
 INSTRUCTIONS, MEMORY = "instructions", "kB"
@@ -109,6 +111,8 @@ def pieces():
     for size in BESIDE:
         work = f"explain-1-{size}"
         yield work, INSTRUCTIONS, partial(capbench.of_one_asked, work, *ASKED)
+    for rows in BEHIND:
+        yield f"first-call-{rows}", INSTRUCTIONS, partial(passes.first_call, rows)
     for kind in dearest.KINDS:
         yield f"line-{kind.name}", INSTRUCTIONS, partial(dearest.of_last, kind.name, kind.few)
     for name, words in workloads({}):

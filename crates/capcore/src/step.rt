@@ -11,7 +11,7 @@ ghost use Rattle.capcore.specs.Promised.{IsPromised};
 use crate::output::StepOutput;
 use crate::step_reply::StepReply;
 use crate::world::World;
-use capbits::{ClientId, Ino, Part, PassId};
+use capbits::{ClientId, Ino, Numbered, Part, PassId};
 use capspec::FsName;
 use capstep::stop::Stop;
 use capstep::{Event, Recorded, Reply, Row};
@@ -22,13 +22,15 @@ use policy_view::ViewChange;
 use sessiontab::{Session, Sessions};
 use std::alloc::{AllocError, Global};
 use std::marker::Model;
-use step_acts::history::make_room;
+use step_acts::history::{count_row, make_room};
 
 /// The state of a metadata server's policy, with the history that led to it.
 #[derive(Debug)]
 pub struct Core {
     world: World,
     rows: Vec<Row>,
+    // How many of the rows each pass has.
+    counts: Numbered<u64>,
     max_rows: u32,
     // What the last step changed of what readers see, with the room of the next.
     output: StepOutput,
@@ -36,6 +38,7 @@ pub struct Core {
 
 impl Model for Core {
     ghost use Rattle.capstep.specs.History.{CoreValue, IsLegalCore, core_value};
+    ghost use Rattle.capstep.specs.Numbers.{AreCounted};
     ghost use Rattle.capcore.specs.Codes.{core_code};
 
     ghost Value = { CoreValue };
@@ -44,7 +47,7 @@ impl Model for Core {
 
     ghost view = { λ c. core_value c.world c.rows.items c.max_rows c.output.changes.items };
 
-    ghost invariant = { λ c. IsLegalCore (core_value c.world c.rows.items c.max_rows c.output.changes.items) };
+    ghost invariant = { λ c. IsLegalCore (core_value c.world c.rows.items c.max_rows c.output.changes.items) × AreCounted c.counts c.rows.items };
 }
 
 // Not derived: so the proof of a function that drops one has a single call there, and no step for each part.
@@ -53,6 +56,7 @@ impl Drop for Core {
         let Core {
             world: _world,
             rows: _rows,
+            counts: _counts,
             max_rows: _max_rows,
             output: _output,
         } = self;
@@ -71,6 +75,7 @@ impl Core {
         Ok(Core {
             world: World::new(alloc, fs, tree)?,
             rows: Vec::new(alloc),
+            counts: Numbered::new(alloc),
             max_rows,
             output: StepOutput::new(alloc),
         })
@@ -84,7 +89,7 @@ impl Core {
         ensures full { (result ≡ Err stop_kind.Full) ↔ (length self.old.rows ≡ self.old.max_rows) }
         ensures err { OnErr result (self.new ≡ self.old) }
     {
-        let nth = make_room(&mut self.rows, self.max_rows, pass)?;
+        let nth = make_room(&mut self.rows, &mut self.counts, self.max_rows, pass)?;
         let step_reply = self.world.step(&event, &mut self.output)?;
         let StepReply { reply, ended } = step_reply;
         let Recorded { given, recorded } = reply;
@@ -98,6 +103,7 @@ impl Core {
         else {
             unreachable!()
         };
+        count_row(&mut self.counts, pass, nth);
         Ok(given)
     }
 

@@ -1,85 +1,20 @@
--- The numbers of rows: the last row of a pass tells how many rows the pass has.
-use Rattle.std.proofs.Common.{◌≡◌, ◌⊎◌, ◌+◌, ◌≤◌, ◌==◌, Bool, true, false, cond, List, [], ◌∷◌, ◌++◌, length, reverse, Some, None, refl, sym, ap, ◌∙◌, inl}
+-- The numbers of rows, and counts of the rows of each pass.
+use Rattle.std.proofs.Common.{◌≡◌, ◌⊎◌, ◌+◌, ◌≤◌, ◌==◌, ℕ, Bool, true, false, cond, List, [], ◌∷◌, ◌++◌, length, Option, Some, None, IsSome, is_some, unwrap_or, refl, sym, ap, subst, ◌∙◌, nat_eq, inl}
 use Rattle.std.proofs.Common.{inr, arith}
 use Rattle.std.proofs.lemmas.Bool.{eqb-true}
-use Rattle.std.proofs.lemmas.List.{reverse-append}
-use Rattle.std.proofs.lemmas.List.Folds.{find-append}
-use Rattle.std.proofs.lemmas.List.Sums.{count_by-le-length, sum_by-cons}
-use Rattle.std.proofs.lemmas.Option.{same_Some}
-use Rattle.std.specs.List.{count_by, find}
-use Rattle.std.specs.Option.{option_or}
+use Rattle.std.proofs.lemmas.List.Sums.{count_by-le-length, sum_by-append, sum_by-cons}
+use Rattle.std.specs.Cmp.{nat_cmp_total}
+use Rattle.std.specs.FinMap as map
+use Rattle.std.specs.FinMap.{FinMap, nat_cmp-IsAntisymmetric}
+use Rattle.std.specs.List.{count_by}
+use Rattle.std.specs.Ordering.{nat_cmp}
+use Rattle.capbits.proofs.Maps.{insert-at, insert-here}
+use Rattle.capbits.specs.Rows.{with_new}
 use Rattle.capbits.specs.declared.ids.PassId.{PassId}
-use Rattle.capstep.specs.Numbers.{AreNumbered}
+use Rattle.capstep.specs.Numbers.{AreCounted, AreNumbered, count_of}
 use Rattle.capstep.proofs.Common.{Row, rows_of}
 
--- ---- the last element that passes a test
-
-record IsLast {X : Type 0} (p : X → Bool) (xs : List X) (x : X) : Type 0 where
-  earlier : List X
-  later : List X
-  splits : xs ≡ earlier ++ x ∷ later
-  passes : p x ≡ true
-  counts : count_by p xs ≡ count_by p earlier + 1
-
-module _ {X : Type 0} (p : X → Bool) where
-  found_from_end : (x : X) (xs : List X) → find p (reverse (x ∷ xs)) ≡ option_or (find p (reverse xs)) (cond (p x) (Some x) None)
-  found_from_end x xs = ap (find p) (reverse-append (x ∷ []) xs) ∙ find-append p (reverse xs) (x ∷ [])
-
-  counts_one_more : (x : X) (xs : List X) (b : Bool) → p x ≡ b → count_by p (x ∷ xs) ≡ cond b 1 0 + count_by p xs
-  counts_one_more x xs b e = sum_by-cons (λ y. cond (p y) 1 0) x xs ∙ ap (λ b. cond b 1 0 + count_by p xs) e
-
-  abbrev Found : List X → Type 0
-  Found xs = ((find p (reverse xs) ≡ None) × (count_by p xs ≡ 0)) ⊎ ((y : X) × (find p (reverse xs) ≡ Some y) × IsLast p xs y)
-
-  from_head : (x : X) (xs : List X) (b : Bool) → p x ≡ b → find p (reverse xs) ≡ None → count_by p xs ≡ 0 → Found (x ∷ xs)
-  from_head x xs true e none zeros =
-      let n : count_by p (x ∷ xs) ≡ 1 + count_by p xs = counts_one_more x xs true e in
-      inr (
-        x,
-        found_from_end x xs ∙ ap (λ o. option_or o (cond (p x) (Some x) None)) none ∙ ap (λ b. cond b (Some x) None) e,
-        record { earlier = []; later = xs; splits = refl; passes = e; counts = omega arith },
-      )
-  from_head x xs false e none zeros =
-      let n : count_by p (x ∷ xs) ≡ 0 + count_by p xs = counts_one_more x xs false e in
-      inl (found_from_end x xs ∙ ap (λ o. option_or o (cond (p x) (Some x) None)) none ∙ ap (λ b. cond b (Some x) None) e, omega arith)
-
-  from_tail : (x : X) (xs : List X) → Found xs → Found (x ∷ xs)
-  from_tail x xs (inl none) = from_head x xs (p x) refl none.0 none.1
-  from_tail x xs (inr found) =
-      let l = found.2 in
-      let n = counts_one_more x xs (p x) refl in
-      let m = counts_one_more x l.earlier (p x) refl in
-      inr (
-        found.0,
-        found_from_end x xs ∙ ap (λ o. option_or o (cond (p x) (Some x) None)) found.1,
-        record { earlier = x ∷ l.earlier; later = l.later; splits = ap (λ ys. x ∷ ys) l.splits; passes = l.passes; counts = omega arith },
-      )
-
-  last_of : (xs : List X) → Found xs
-  last_of [] = inl (refl, refl)
-  last_of (x ∷ xs) = from_tail x xs (last_of xs)
-
-  -- none is found: none passes
-  none_passes : (xs : List X) → find p (reverse xs) ≡ None → count_by p xs ≡ 0
-  none_passes xs none = grind (arith, last_of)
-
-  -- one is found: it is the last that passes
-  is_last : (xs : List X) (x : X) → find p (reverse xs) ≡ Some x → IsLast p xs x
-  is_last xs x e = grind (arith, last_of, same_Some)
-
 -- ---- the rows of a pass
-
--- a pass with no row
-pub no_row_found : (pass : PassId) (rows : List Row) → find (λ row. row.pass.0 == pass.0) (reverse rows) ≡ None → rows_of pass rows ≡ 0
-no_row_found pass rows none = none_passes (λ row. row.pass.0 == pass.0) rows none
-
--- the number of the last row of a pass is how many rows the pass has
-pub last_row_found : (pass : PassId) (rows : List Row) (row : Row) → AreNumbered rows → find (λ row. row.pass.0 == pass.0) (reverse rows) ≡ Some row → row.nth ≡ rows_of pass rows
-last_row_found pass rows row numbered e =
-    let l = is_last (λ row. row.pass.0 == pass.0) rows row e in
-    numbered l.earlier l.later row l.splits
-    ∙ ap (λ n. count_by (λ row. row.pass.0 == n) l.earlier + 1) (eqb-true row.pass.0 pass.0 l.passes)
-    ∙ sym l.counts
 
 -- no pass has more rows than there are
 pub rows_of-le-length : (pass : PassId) (rows : List Row) → rows_of pass rows ≤ length rows
@@ -118,3 +53,45 @@ numbered-snoc rows row numbered next earlier later other e =
           ∙ ap (λ (rs : List Row). rows_of other.pass rs + 1) (sym at_end.0)
       | inr before ↦ numbered earlier before.between other before.splits
     ]
+
+-- ---- counts
+
+-- room for the count of a pass
+pub room_there : (m : FinMap nat_cmp ℕ) (number : ℕ) → IsSome (map.get (with_new m number 0) number)
+room_there m number = by_case (map.get m number) refl
+  where
+    by_case : (o : Option ℕ) → map.get m number ≡ o → IsSome (map.get (with_new m number 0) number)
+    by_case (Some count) is = subst (λ o. IsSome (map.get (cond (is_some o) m (map.insert m number 0)) number)) (sym is) (subst IsSome (sym is) refl)
+    by_case None is = subst (λ o. IsSome (map.get (cond (is_some o) m (map.insert m number 0)) number)) (sym is) (subst IsSome (sym (insert-here nat_cmp_total nat_cmp-IsAntisymmetric m number 0)) refl)
+
+-- it changes no count
+pub room-counts : (m : FinMap nat_cmp ℕ) (number : ℕ) (pass : PassId) → count_of (with_new m number 0) pass ≡ count_of m pass
+room-counts m number pass = by_case (map.get m number) refl
+  where
+    by_test : (b : Bool) → nat_eq number pass.0 ≡ b → map.get m number ≡ None → unwrap_or (cond b (Some 0) (map.get m pass.0)) 0 ≡ count_of m pass
+    by_test true e none = sym (ap (λ n. unwrap_or (map.get m n) 0) (sym (eqb-true number pass.0 e)) ∙ ap (λ o. unwrap_or o 0) none)
+    by_test false e none = refl
+
+    by_case : (o : Option ℕ) → map.get m number ≡ o → count_of (with_new m number 0) pass ≡ count_of m pass
+    by_case (Some count) is = ap (λ o. count_of (cond (is_some o) m (map.insert m number 0)) pass) is
+    by_case None is = ap (λ o. count_of (cond (is_some o) m (map.insert m number 0)) pass) is ∙ ap (λ o. unwrap_or o 0) (insert-at m number pass.0 0) ∙ by_test (nat_eq number pass.0) refl is
+
+rows_of-more : (pass : PassId) (rows : List Row) (row : Row) → rows_of pass (rows ++ row ∷ []) ≡ rows_of pass rows + cond (row.pass.0 == pass.0) 1 0
+rows_of-more pass rows row =
+    let f : Row → ℕ = λ r. cond (r.pass.0 == pass.0) 1 0 in
+    let all = sum_by-append f rows (row ∷ []) in
+    let one = sum_by-cons f row [] in
+    omega (arith, all, one)
+
+-- a new history has no rows to count
+pub counted-nil : AreCounted map.empty []
+counted-nil pass = ap (λ o. unwrap_or o 0) (map.get-empty nat_cmp pass.0)
+
+-- one row more, which has the next number of its pass, is counted by that number
+pub counted-snoc : (m : FinMap nat_cmp ℕ) (rows : List Row) (row : Row) → AreCounted m rows → row.nth ≡ rows_of row.pass rows + 1 → AreCounted (map.insert m row.pass.0 row.nth) (rows ++ row ∷ [])
+counted-snoc m rows row counted next pass =
+    ap (λ o. unwrap_or o 0) (insert-at m row.pass.0 pass.0 row.nth) ∙ by_test (nat_eq row.pass.0 pass.0) refl ∙ sym (rows_of-more pass rows row)
+  where
+    by_test : (b : Bool) → nat_eq row.pass.0 pass.0 ≡ b → unwrap_or (cond b (Some row.nth) (map.get m pass.0)) 0 ≡ rows_of pass rows + cond b 1 0
+    by_test true e = next ∙ ap (λ n. count_by (λ r. r.pass.0 == n) rows + 1) (eqb-true row.pass.0 pass.0 e)
+    by_test false e = let same = counted pass in omega (arith, same)
