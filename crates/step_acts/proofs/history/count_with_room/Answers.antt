@@ -5,10 +5,10 @@ use Rattle.std.specs.Ordering.{nat_cmp}
 use Rattle.capbits.specs.Rows.{with_new}
 use Rattle.capstep.specs.Numbers.{count_of}
 use Rattle.capstep.proofs.Numbered.{room-counts, room_there}
-use Rattle.step_acts.proofs.history.count_with_room.Goals.{In-Ok}
+use Rattle.step_acts.proofs.history.count_with_room.Goals.{After-unwrap_or}
 use Rattle.step_acts.proofs.history.count_with_room.Goals as goal
 
-added : (c : In-Ok) → c.add.new.self ≡ with_new c.args.counts.now c.args.pass.0 0
+added : (c : After-unwrap_or) → c.add.new.self ≡ with_new c.args.counts.now c.args.pass.0 0
 added c = c.in_ok-add.ensures.ok ∙ ap (λ n. with_new c.args.counts.now n 0) c.from-number.ensures
 
 pub returns-clause-counts : goal.returns-clause-counts
