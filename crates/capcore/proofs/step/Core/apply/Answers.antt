@@ -61,14 +61,13 @@ pub invariant_of-self-2 : goal.invariant_of-self-2
 invariant_of-self-2 c =
     let row : Row = row_of c in
     let step : Step c.self.inside.world row.event row.reply row.ended c.step.new.self = recorded_step c in
-    let all = answered_of c in
-    (
+    let all = answered_of c in (
       rw (c.in-Ok.ensures.items, c.make_room.ensures.items)
-      (more-legal (core_value c.self.inside.world c.self.inside.rows.items c.self.inside.max_rows c.self.inside.output.changes.items) row c.step.new.self c.step.new.output.changes.items c.self.invariant.0 step c.in_ok-nth.ensures.number c.in_ok-nth.ensures.room.0
-      (order_of c).0 all.sound (all.given (length c.self.inside.rows.items) c.self.invariant.0.given)),
+          (more-legal (core_value c.self.inside.world c.self.inside.rows.items c.self.inside.max_rows c.self.inside.output.changes.items) row c.step.new.self c.step.new.output.changes.items c.self.invariant.0 step c.in_ok-nth.ensures.number c.in_ok-nth.ensures.room.0
+          (order_of c).0 all.sound (all.given (length c.self.inside.rows.items) c.self.invariant.0.given)),
       subst (λ (rows : List Row). AreCounted c.count_row.new.counts rows) (sym (added c))
-      (subst (λ (m : FinMap nat_cmp ℕ). AreCounted m (c.self.inside.rows.items ++ row ∷ [])) (sym c.count_row.ensures)
-      (counted-snoc c.make_room.new.counts c.self.inside.rows.items row (λ pass. c.make_room.ensures.counts pass ∙ c.self.invariant.1 pass) c.in_ok-nth.ensures.number)),
+          (subst (λ (m : FinMap nat_cmp ℕ). AreCounted m (c.self.inside.rows.items ++ row ∷ [])) (sym c.count_row.ensures)
+          (counted-snoc c.make_room.new.counts c.self.inside.rows.items row (λ pass. c.make_room.ensures.counts pass ∙ c.self.invariant.1 pass) c.in_ok-nth.ensures.number)),
     )
 
 shows_pending : (c : After-count_row) → ShowsWhatIsPending (c.self.inside.rows.items ++ row_of c ∷ []) c.step.new.self.scene
