@@ -8,7 +8,7 @@ _capd() {
     elif [[ $before == --mds ]]; then
         mapfile -t COMPREPLY < <(compgen -W '16 18 20' -- "$word")
     elif [[ ${COMP_WORDS[1]} == compare ]]; then
-        mapfile -t COMPREPLY < <(compgen -W '--json --mds --addr --help' -- "$word")
+        mapfile -t COMPREPLY < <(compgen -W '--more --json --mds --addr --help' -- "$word")
     elif [[ ${COMP_WORDS[1]} == log ]]; then
         mapfile -t COMPREPLY < <(compgen -W '--fs --denied --count --mds --json --help' -- "$word")
     elif [[ ${COMP_WORDS[1]} == lint ]]; then

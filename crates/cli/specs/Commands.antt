@@ -27,7 +27,7 @@ use Rattle.cli.specs.declared.stopping.Fault.TheVariants.{Answer, Script, Serve}
 abbrev pub Answers : Invocation → Option (List ℕ) → ℕ → Option (List ℕ) → Option (List ℕ) → Type 0
 Answers (invocations.Explain explain_args) input status old new = AnswersExplainArgs explain_args input status old new
 Answers (invocations.Grants text more mds) input status old new = (status ≡ 0) × AnswersGrants mds text.items old new
-Answers (invocations.Compare before after shape mds addr) input status old new = (status ≡ 0) × AnswersComparing mds addr shape before.items after.items old new
+Answers (invocations.Compare before after telling mds addr) input status old new = (status ≡ 0) × AnswersComparing mds addr telling before.items after.items old new
 Answers (invocations.Lint text shape mds) input status old new = AnswersLint mds shape text.items status old new
 Answers (invocations.Who who_args) input status old new = AnswersWhoArgs who_args input status old new
 Answers (invocations.Audit audit_args) input status old new = AnswersAuditArgs audit_args input status old new
@@ -63,7 +63,7 @@ TellsOfAnswer P (Serve stop) = ⊥
 abbrev pub Stops : Invocation → Fault → Option (List ℕ) → Bool → Bool → Bool → Option (List ℕ) → Option (List ℕ) → Type 0
 Stops (invocations.Explain explain_args) fault input ended unread unwritten old new = TellsOfAnswer (λ reported. StopsExplainArgs explain_args reported input unread unwritten old new) fault
 Stops (invocations.Grants text more mds) fault input ended unread unwritten old new = TellsOfAnswer (λ reported. StopsGrants mds text.items reported unwritten old new) fault
-Stops (invocations.Compare before after shape mds addr) fault input ended unread unwritten old new = TellsOfAnswer (λ reported. StopsComparing mds addr before.items after.items reported unwritten old new) fault
+Stops (invocations.Compare before after telling mds addr) fault input ended unread unwritten old new = TellsOfAnswer (λ reported. StopsComparing mds addr before.items after.items reported unwritten old new) fault
 Stops (invocations.Lint text shape mds) fault input ended unread unwritten old new = TellsOfAnswer (λ reported. StopsLint mds text.items reported unwritten old new) fault
 Stops (invocations.Who who_args) fault input ended unread unwritten old new = TellsOfAnswer (λ reported. StopsWhoArgs who_args reported input unread unwritten old new) fault
 Stops (invocations.Audit audit_args) fault input ended unread unwritten old new = TellsOfAnswer (λ reported. StopsAuditArgs audit_args reported input unread unwritten old new) fault

@@ -125,12 +125,12 @@ fn answer<T: Threads + Wait + Sync, R: Read, W: Write>(
         Invocation::Compare {
             old,
             new,
-            shape,
+            telling,
             mds,
             addr,
         } => {
             let by = ComparedBy { mds: *mds, addr };
-            compare_texts(alloc, old.as_slice(), new.as_slice(), by, *shape, writer)
+            compare_texts(alloc, old.as_slice(), new.as_slice(), by, *telling, writer)
         }
         Invocation::Lint { text, shape, mds } => {
             lint(alloc, text.as_slice(), *shape, *mds, writer)

@@ -17,6 +17,8 @@ use Rattle.queries.specs.Mds.{IsFaultThere, IsMdsFault}
 use Rattle.queries.specs.Question.{IsFaultIn}
 use Rattle.texts.specs.declared.shape.Shape.{Shape}
 use Rattle.texts.specs.Shapes.{nothing_in}
+use Rattle.queries.specs.declared.clients.Telling.{Telling}
+use Rattle.queries.specs.Clients.{shape_of}
 use Rattle.queries.specs.Comparing.{IsComparison}
 use Rattle.queries.specs.ComparingBy.{IsComparisonBy, IsFaultBy}
 use Rattle.queries.specs.Linting.{IsLintBy, IsLintOf}
@@ -31,14 +33,14 @@ use Rattle.cli_queries.specs.ExplainArgs.{AnswersBy, IsGrantsText, IsUnread, wit
 abbrev pub StopsBefore : (QuestionFault → Type 0) → AnswerFault → Bool → Option (List ℕ) → Option (List ℕ) → Type 0
 StopsBefore P fault failed old new = ((fault ≡ WriteFailed) × IsTrue failed) ⊎ (Tells P fault × Keeps old new)
 
--- the lines that compare two texts, by the rules of a release where one is named
-abbrev pub IsComparisonFor : Option Release → Option (Vec ℕ) → Shape → List ℕ → List ℕ → List ℕ → Type 0
-IsComparisonFor None addr shape before after lines = IsComparison shape before after lines
-IsComparisonFor (Some release) addr shape before after lines = IsComparisonBy release addr shape before after lines
+-- the lines that compare two texts, told in this way; by the rules of a release alone, with nothing more behind them, where one is named
+abbrev pub IsComparisonFor : Option Release → Option (Vec ℕ) → Telling → List ℕ → List ℕ → List ℕ → Type 0
+IsComparisonFor None addr telling before after lines = IsComparison telling before after lines
+IsComparisonFor (Some release) addr telling before after lines = IsComparisonBy release addr (shape_of telling) before after lines
 
 -- such lines were written
-abbrev pub AnswersComparing : Option Release → Option (Vec ℕ) → Shape → List ℕ → List ℕ → Option (List ℕ) → Option (List ℕ) → Type 0
-AnswersComparing mds addr shape before after old new = (lines : List ℕ) × IsComparisonFor mds addr shape before after lines × Appends old new lines
+abbrev pub AnswersComparing : Option Release → Option (Vec ℕ) → Telling → List ℕ → List ℕ → Option (List ℕ) → Option (List ℕ) → Type 0
+AnswersComparing mds addr telling before after old new = (lines : List ℕ) × IsComparisonFor mds addr telling before after lines × Appends old new lines
 
 -- none were: a write failed, or nothing was written, by why the texts are not compared
 abbrev pub StopsComparing : Option Release → Option (Vec ℕ) → List ℕ → List ℕ → AnswerFault → Bool → Option (List ℕ) → Option (List ℕ) → Type 0

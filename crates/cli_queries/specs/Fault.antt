@@ -3,6 +3,7 @@ use Rattle.std.specs.Prelude.{◌≡◌, ◌⊎◌, ℕ, List, Option, None}
 use Rattle.queries.specs.declared.fault.QuestionFault.{QuestionFault}
 use Rattle.queries.specs.declared.fault.QuestionFault.TheVariants.{BadValue, Grants}
 use Rattle.queries.specs.declared.fault.QuestionFault.TheVariants as asked
+use Rattle.queries.specs.declared.options.Opt.TheVariants.{Addr}
 use Rattle.release_grants.specs.declared.forms.NoForm.{NoForm as WithoutForm}
 use Rattle.release_grants.specs.declared.forms.NoForm.TheVariants as forms
 use Rattle.release_rules.specs.declared.release.Release.{Release}
@@ -67,7 +68,7 @@ compare_fault_of compared.NoMemory = NoMemory
 abbrev pub mds_compare_fault_of : MdsCompareFault → AnswerFault
 mds_compare_fault_of (compared_by.Old why) = MdsCompare (compared_by.Old why)
 mds_compare_fault_of (compared_by.New why) = MdsCompare (compared_by.New why)
-mds_compare_fault_of (compared_by.Question fault) = fault_of fault
+mds_compare_fault_of compared_by.BadAddress = Question (BadValue Addr)
 mds_compare_fault_of compared_by.NoMemory = NoMemory
 
 -- what is told is why these two texts are not compared

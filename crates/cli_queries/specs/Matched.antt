@@ -70,6 +70,12 @@ abbrev pub IsShape : List Row → Shape → Type 0
 IsShape words shapes.Objects = IsFlag words (codes "json") true
 IsShape words shapes.Lines = IsFlag words (codes "json") false
 
+-- of `--more` and `--json` the first that stands
+abbrev pub IsTelling : List Row → Telling → Type 0
+IsTelling words tellings.More = IsFlag words (codes "more") true
+IsTelling words tellings.Object = IsFlag words (codes "more") false × IsFlag words (codes "json") true
+IsTelling words tellings.Line = IsFlag words (codes "more") false × IsFlag words (codes "json") false
+
 -- ---- explain
 
 -- the value of each option; grants that are not given have no byte
@@ -113,12 +119,6 @@ abbrev pub IsAttr : List Row → Option AttrValues → Type 0
 IsAttr words None = IsLeftOut words (option_name options.Owner)
 IsAttr words (Some attr) = IsOption words options.Owner attr.owner × IsOption words options.Group attr.group × IsOption words options.Mode attr.mode
 
--- of `--more` and `--json` the first that stands
-abbrev pub IsTelling : List Row → Telling → Type 0
-IsTelling words tellings.More = IsFlag words (codes "more") true
-IsTelling words tellings.Object = IsFlag words (codes "more") false × IsFlag words (codes "json") true
-IsTelling words tellings.Line = IsFlag words (codes "more") false × IsFlag words (codes "json") false
-
 pub record IsWhoArgs (words : List Row) (who_args : WhoArgs) : Type 0 where
   pub access : IsOption words options.Access who_args.values.access
   pub path : IsOption words options.Path who_args.values.path
@@ -154,8 +154,8 @@ pub record IsAuditArgs (words : List Row) (audit_args : AuditArgs) : Type 0 wher
 abbrev pub AsksFor : List ℕ → List Row → Invocation → Type 0
 AsksFor name words (invocations.Explain explain_args) = (name ≡ codes "explain") × IsExplainArgs words explain_args
 AsksFor name words (invocations.Grants text more mds) = (name ≡ codes "grants") × IsValue words (codes "text") text × IsFlag words (codes "more") more × IsMds words mds
-AsksFor name words (invocations.Compare old new shape mds addr) =
-    (name ≡ codes "compare") × IsValue words (codes "old") old × IsValue words (codes "new") new × IsShape words shape × IsMds words mds × IsGiven words (option_name options.Addr) addr
+AsksFor name words (invocations.Compare old new telling mds addr) =
+    (name ≡ codes "compare") × IsValue words (codes "old") old × IsValue words (codes "new") new × IsTelling words telling × IsMds words mds × IsGiven words (option_name options.Addr) addr
 AsksFor name words (invocations.Lint text shape mds) = (name ≡ codes "lint") × IsValue words (codes "text") text × IsShape words shape × IsMds words mds
 AsksFor name words (invocations.Who who_args) = (name ≡ codes "who") × IsWhoArgs words who_args
 AsksFor name words (invocations.Audit audit_args) = (name ≡ codes "audit") × IsAuditArgs words audit_args

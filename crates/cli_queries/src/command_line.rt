@@ -7,7 +7,7 @@ use crate::usage::{COMMANDS, Kind, Usage, Word};
 use crate::who_args::WhoArgs;
 use clap::error::ErrorKind;
 use clap::{Arg, ArgAction, Command, Error};
-use queries::spell;
+use queries::{Telling, spell};
 use release_rules::Release;
 use std::alloc::{AllocError, Global};
 use texts::Shape;
@@ -93,9 +93,9 @@ pub enum Invocation {
         old: Vec<u8>,
         /// The text of the new ones.
         new: Vec<u8>,
-        /// How the answer is written.
-        shape: Shape,
-        /// The release by whose rules they are compared; this server's where there is none.
+        /// How the answer is told, and whether more is told behind it.
+        telling: Telling,
+        /// The release by whose rules alone they are compared; this server's where there is none.
         mds: Option<Release>,
         /// The address that the client comes from, where it is given.
         addr: Option<Vec<u8>>,
@@ -150,7 +150,7 @@ impl Drop for Invocation {
             Invocation::Compare {
                 old: _,
                 new: _,
-                shape: _,
+                telling: _,
                 mds: _,
                 addr: _,
             } => {}

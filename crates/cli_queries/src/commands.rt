@@ -19,8 +19,8 @@ use crate::fault::AnswerFault;
 use crate::status::{DENIED, DONE, FOUND};
 use capspec::{read_grants, write_grants};
 use queries::{
-    MdsAnswer, MdsAsking, NotRead, Question, Values, compare, compare_by, lint_by, lint_text,
-    mds_grants,
+    MdsAnswer, MdsAsking, NotRead, Question, Telling, Values, compare, compare_by, lint_by,
+    lint_text, mds_grants,
 };
 use release_grants::{NoForm, mds_form};
 use release_rules::Release;
@@ -252,29 +252,30 @@ pub struct ComparedBy<'a> {
     pub addr: &'a Option<Vec<u8>>,
 }
 
-/// Writes in this shape what the grants of one text allow and those of another deny, and the other way round.
+/// Writes what the grants of one text allow and those of another deny, and the other way round, told in this way. By the rules of a release alone
+/// there is nothing more to be told.
 pub fn compare_texts<W: Write>(
     alloc: Global,
     before: &[u8],
     after: &[u8],
     by: ComparedBy<'_>,
-    shape: Shape,
+    telling: Telling,
     writer: &mut Watched<W>,
 ) -> Result<u8, AnswerFault>
     requires { IsFalse (has_failed writer.old) }
     ensures ok { OnOk result (IsFalse (has_failed writer.new)) }
     ensures status { IfOk result (λ status. status ≡ DONE) }
-    ensures compared { OnOk result (AnswersComparing by.entry.mds by.entry.addr.now shape before.now after.now (W.contents (inner_of writer.old)) (W.contents (inner_of writer.new))) }
+    ensures compared { OnOk result (AnswersComparing by.entry.mds by.entry.addr.now telling before.now after.now (W.contents (inner_of writer.old)) (W.contents (inner_of writer.new))) }
     ensures fault { IfErr result (λ fault. StopsComparing by.entry.mds by.entry.addr.now before.now after.now fault (has_failed writer.new)
         (W.contents (inner_of writer.old)) (W.contents (inner_of writer.new))) }
 {
     match by.mds {
         Some(release) => {
-            let lines = compare_by(alloc, release, by.addr, before, after, shape)?;
+            let lines = compare_by(alloc, release, by.addr, before, after, telling.shape())?;
             write_text(lines.as_slice(), DONE, writer)
         }
         None => {
-            let lines = compare(alloc, before, after, shape)?;
+            let lines = compare(alloc, before, after, telling)?;
             write_text(lines.as_slice(), DONE, writer)
         }
     }

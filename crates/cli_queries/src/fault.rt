@@ -3,7 +3,7 @@
 use capspec::SpecFault;
 use ceph_input::{AuthFault, KeyringFault, TreeFault};
 use cluster_audit::HeldFault;
-use queries::{CompareFault, MdsCompareFault, MdsFault, NotRead, QuestionFault};
+use queries::{CompareFault, MdsCompareFault, MdsFault, NotRead, Opt, QuestionFault};
 use release_rules::Release;
 use std::alloc::{AllocError, AllocFailed};
 use std::fmt;
@@ -194,7 +194,9 @@ impl From<MdsCompareFault> for AnswerFault {
     fn from(asked: MdsCompareFault) -> Self {
         match asked {
             MdsCompareFault::NoMemory => AnswerFault::NoMemory,
-            MdsCompareFault::Question(fault) => AnswerFault::from(fault),
+            MdsCompareFault::BadAddress => {
+                AnswerFault::Question(QuestionFault::BadValue(Opt::Addr))
+            }
             _ => AnswerFault::MdsCompare(asked),
         }
     }

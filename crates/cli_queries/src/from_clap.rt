@@ -59,7 +59,7 @@ impl Matched<'_, '_> {
                 Ok(Invocation::Compare {
                     old: self.value(OLD)?,
                     new: self.value(NEW)?,
-                    shape: self.shape(),
+                    telling: self.telling(),
                     mds: self.mds()?,
                     addr,
                 })

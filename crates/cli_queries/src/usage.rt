@@ -371,7 +371,7 @@ const GRANTS_WORDS: [Word; 3] = [
     },
 ];
 
-const COMPARE_WORDS: [Word; 5] = [
+const COMPARE_WORDS: [Word; 6] = [
     Word {
         name: Name::Own(OLD),
         value: "OLD",
@@ -388,7 +388,15 @@ const COMPARE_WORDS: [Word; 5] = [
         needs: None,
         bars: &[],
     },
-    PRINTS_JSON,
+    Word {
+        name: Name::Own(MORE),
+        value: "",
+        help: "Prints further lines, for what the MDS of Ceph 16, 18 or 20 says where something changes there and not here, or here and not there",
+        kind: Kind::Flag,
+        needs: None,
+        bars: &[],
+    },
+    JSON_OR_MORE,
     Word {
         name: Name::Own(MDS),
         value: "RELEASE",

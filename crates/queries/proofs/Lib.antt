@@ -26,3 +26,5 @@ pub mod Items
 pub mod LogObjects
 pub mod WrittenChecks
 pub mod ComparedBy
+pub mod ComparedMore
+pub mod Sections

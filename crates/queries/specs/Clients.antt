@@ -14,6 +14,8 @@ use Rattle.policy_analysis.specs.Standing.{Answers}
 use Rattle.release_rules.specs.declared.beside.Others.{Others}
 use Rattle.release_rules.specs.declared.release.Release.{Release}
 use Rattle.release_rules.specs.declared.release.Release.TheVariants.{Pacific, Reef, Tentacle}
+use Rattle.texts.specs.declared.shape.Shape.{Shape}
+use Rattle.texts.specs.declared.shape.Shape.TheVariants.{Lines, Objects}
 use Rattle.texts.specs.Standing.{standing_line, standing_others, unread_line}
 use Rattle.texts.specs.Standings.{standing_object, unread_object}
 use Rattle.queries.specs.declared.clients.Telling.{Telling}
@@ -41,6 +43,12 @@ others_in Line w attr text standing = nothing
 others_in telling w attr text standing = others_to w attr text standing
 
 -- ---- what is said
+
+-- the shape of what is told in this way
+abbrev pub shape_of : Telling → Shape
+shape_of Line = Lines
+shape_of More = Lines
+shape_of Object = Objects
 
 -- what is said of a client, told in this way: a line; or this with one for each answer that releases give otherwise; or an object that says all of it
 abbrev pub standing_in : Telling → List ℕ → Wanted → Option Attr → Standing → Others → List ℕ

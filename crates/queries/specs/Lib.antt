@@ -24,3 +24,4 @@ pub mod Reported
 pub mod LogPieces
 pub mod Items
 pub mod ComparingBy
+pub mod ComparingMore

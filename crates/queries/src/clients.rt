@@ -14,18 +14,34 @@ use policy_analysis::{MdsWanted, Standing, Wanted};
 use release_rules::{Others, Release};
 use std::alloc::{AllocError, Global};
 use texts::{
-    print_standing, print_standing_object, print_standing_others, print_unread, print_unread_object,
+    Shape, print_standing, print_standing_object, print_standing_others, print_unread,
+    print_unread_object,
 };
 
-/// How it is told of a client whether it may.
+/// How an answer is told: whether a client may, or what changes between two texts of grants.
 #[derive(Clone, Copy)]
 pub enum Telling {
-    /// By a line.
+    /// By a line, or by one for each change.
     Line,
-    /// By that line, and by lines for where the MDS of a release answers somebody behind its key otherwise.
+    /// By that, and by lines for where the MDS of a release answers otherwise.
     More,
-    /// By an object of JSON that says all of it, as a line.
+    /// By an object of JSON in the place of each line. Of a client it says all that there is.
     Object,
+}
+
+impl Telling {
+    ghost use Rattle.std.specs.Prelude.{◌≡◌};
+    ghost use Rattle.queries.specs.Clients.{shape_of};
+
+    /// The shape in which it tells what has nothing more behind it.
+    pub fn shape(self) -> Shape
+        ensures { result ≡ shape_of self }
+    {
+        match self {
+            Telling::Line | Telling::More => Shape::Lines,
+            Telling::Object => Shape::Objects,
+        }
+    }
 }
 
 // What the grants of a client say to what is wanted.

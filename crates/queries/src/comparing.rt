@@ -2,13 +2,15 @@
 ghost use Rattle.std.specs.Prelude.{IfErr, IfOk};
 ghost use Rattle.queries.specs.Comparing.{Compares, IsComparison, IsFaultOfTexts};
 
+use crate::clients::Telling;
+use crate::comparing_more::lines_beside;
 use crate::grant_text::read_text;
 use capspec::{Grants, SpecFault};
 use policy_analysis::{gained, lost};
 use std::alloc::{AllocError, Global};
 use std::fmt;
 use std::fmt::Display;
-use texts::{Shape, change_objects, comparison_lines};
+use texts::{change_objects, comparison_lines};
 
 /// Why two texts of grants are not compared.
 #[derive(Clone, Copy)]
@@ -42,33 +44,42 @@ impl From<AllocError> for CompareFault {
     }
 }
 
-/// Lines of this shape that tell, by a question each, what the new grants allow and the old ones deny, and the other way round; or that they
-/// allow the same. The fault is that of the old text, else that of the new one. `NoMemory` comes only where both are good.
-pub fn compare(alloc: Global, old: &[u8], new: &[u8], shape: Shape) -> Result<Vec<u8>, CompareFault>
-    ensures ok { IfOk result (λ lines. IsComparison shape old.now new.now lines.items) }
+/// What the new grants allow and the old ones deny, by a question, and the other way round; or that they allow the same. By lines, by these with
+/// those of each release behind them that answers otherwise, or by objects. The fault is that of the old text, else that of the new one.
+/// `NoMemory` comes only where both are good.
+pub fn compare(
+    alloc: Global,
+    old: &[u8],
+    new: &[u8],
+    telling: Telling,
+) -> Result<Vec<u8>, CompareFault>
+    ensures ok { IfOk result (λ lines. IsComparison telling old.now new.now lines.items) }
     ensures err { IfErr result (IsFaultOfTexts old.now new.now) }
 {
     let before = read_text(alloc, old).map_err(CompareFault::Old)?;
     let after = read_text(alloc, new).map_err(CompareFault::New)?;
     match (before, after) {
-        (Some(before), Some(after)) => Ok(comparison(alloc, &before, &after, shape)?),
+        (Some(before), Some(after)) => Ok(comparison(alloc, old, new, &before, &after, telling)?),
         _ => Err(CompareFault::NoMemory),
     }
 }
 
-// The lines for these grants. Only memory can be missing.
+// What is told of these texts, which mean these grants. Only memory can be missing.
 fn comparison(
     alloc: Global,
+    old: &[u8],
+    new: &[u8],
     before: &Grants,
     after: &Grants,
-    shape: Shape,
+    telling: Telling,
 ) -> Result<Vec<u8>, AllocError>
-    ensures { IfOk result (λ lines. Compares shape before.now after.now lines.items) }
+    ensures { IfOk result (λ lines. Compares telling old.now new.now before.now after.now lines.items) }
 {
     let gain = gained(alloc, before, after)?;
     let loss = lost(alloc, before, after)?;
-    match shape {
-        Shape::Lines => comparison_lines(alloc, &gain, &loss),
-        Shape::Objects => change_objects(alloc, &gain, &loss),
+    match telling {
+        Telling::Line => comparison_lines(alloc, &gain, &loss),
+        Telling::More => lines_beside(alloc, &gain, &loss, old, new),
+        Telling::Object => change_objects(alloc, &gain, &loss),
     }
 }

@@ -1,5 +1,6 @@
 //! Laws of texts. No program needs to call them.
 
+ghost use Rattle.queries.specs.ComparingMore.{OneWithReleases};
 ghost use Rattle.queries.specs.ClientsReported.{EachHasItsLines, OneText};
 ghost use Rattle.queries.specs.Linting.{OneLint, SaysSomething};
 
@@ -16,4 +17,10 @@ pub fn one_text_for_what_is_found()
 pub fn one_text_for_an_answer()
     ensures things { EachHasItsLines }
     ensures one_text { OneText }
+{}
+
+/// Where `compare` tells another gain or loss of two texts by this server, or another answer of a release behind it, other lines are printed: also where
+/// one is told of which another tells nothing.
+pub fn one_text_for_releases_beside()
+    ensures { OneWithReleases }
 {}

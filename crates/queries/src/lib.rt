@@ -14,6 +14,7 @@ mod clients;
 mod clients_by;
 mod comparing;
 mod comparing_by;
+mod comparing_more;
 mod cuts;
 mod fault;
 mod grant_text;

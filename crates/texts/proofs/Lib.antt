@@ -5,7 +5,7 @@ pub mod Quoted
 pub mod Answered
 pub mod Clients
 pub mod Compared
-mod MdsCompared
+pub mod MdsCompared
 pub mod Linted
 pub mod Remarked
 pub mod Asked
