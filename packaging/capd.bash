@@ -28,7 +28,7 @@ _capd() {
         # The numbers stand right behind the colon.
         [[ ${COMPREPLY[*]} == *: ]] && compopt -o nospace
     elif [[ ${COMP_WORDS[1]} == audit ]]; then
-        mapfile -t COMPREPLY < <(compgen -W '--auth --sessions --tree --rule --mds --json --fs --help' -- "$word")
+        mapfile -t COMPREPLY < <(compgen -W '--auth --sessions --tree --rule --mds --more --json --fs --help' -- "$word")
     elif [[ ${COMP_WORDS[1]} == who ]]; then
         mapfile -t COMPREPLY < <(compgen -W '--auth --fs --owner --group --mode --mds --more --json --help' -- "$word")
     else

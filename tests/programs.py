@@ -1,4 +1,4 @@
-"""The programs and the library that these tests ask, as `rt ci` and `tools/dev c-library` leave them, and how a test reads its words."""
+"""The programs and the library that these tests ask, and the texts that talks read, as `rt ci` and `tools/dev c-library` leave them, and how a test reads its words."""
 
 import argparse
 import sys
@@ -8,6 +8,8 @@ ROOT = Path(__file__).resolve().parent.parent
 CAPD = ROOT / "crates" / "capd" / "out" / "capd"
 CAPBENCH = ROOT / "crates" / "capbench" / "out" / "capbench"
 LIBRARY = ROOT / "out" / "c" / "libbaybowl.a"
+# What the talks read.
+DATA = ROOT / "crates" / "capbench" / "data"
 MADE_BY = {CAPD: "rt ci", CAPBENCH: "rt ci", LIBRARY: "tools/dev c-library"}
 
 

@@ -4,7 +4,8 @@ use Rattle.std.specs.Io.KnownBytes.{Appends}
 use Rattle.std.specs.Prelude.{Err, IfErr, IfOk, IfSome, IsErrAnd, IsFalse, IsTrue, Ok, OnOk, Result, if◌then◌else◌}
 use Rattle.ceph_input.specs.Dump.{Dump, tree_of}
 use Rattle.ceph_input.specs.FsNames.{AreFsNames, fs_among}
-use Rattle.cluster_audit.specs.Audited.{AreClients, IsFaultOfClients, IsReport, Roster, clients_of}
+use Rattle.cluster_audit.specs.Audited.{AreClients, IsFaultOfClients, Roster, clients_of}
+use Rattle.cluster_audit.specs.Report.{IsReport}
 use Rattle.cluster_audit.specs.declared.fault.HeldFault.{HeldFault}
 use Rattle.queries.specs.declared.fault.QuestionFault.{QuestionFault}
 use Rattle.queries.specs.declared.fault.QuestionFault.TheVariants.{BadValue}

@@ -4,7 +4,8 @@ use Rattle.std.specs.Io.KnownBytes.{Appends, Keeps}
 use Rattle.ceph_input.specs.FsNames.{AreFsNames, fs_among}
 use Rattle.cluster_audit.specs.declared.fault.HeldFault.{HeldFault}
 use Rattle.ceph_input.specs.Dump.{Dump, tree_of}
-use Rattle.cluster_audit.specs.Audited.{AreClients, IsFaultOfClients, IsReport, Roster, clients_of}
+use Rattle.cluster_audit.specs.Audited.{AreClients, IsFaultOfClients, Roster, clients_of}
+use Rattle.cluster_audit.specs.Report.{IsReport}
 use Rattle.queries.specs.declared.fault.QuestionFault.TheVariants.{BadValue}
 use Rattle.queries.specs.declared.options.Opt.TheVariants.{Fs}
 use Rattle.queries.specs.Values.{IsFsIf}

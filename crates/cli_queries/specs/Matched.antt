@@ -137,7 +137,7 @@ IsDetail words details.Groups = IsFlag words (codes "rule") true
 IsDetail words details.Each = IsFlag words (codes "rule") false
 
 abbrev pub IsManner : List Row → Manner → Type 0
-IsManner words manner = IsMds words manner.mds × IsDetail words manner.detail × IsShape words manner.shape
+IsManner words manner = IsMds words manner.mds × IsDetail words manner.detail × IsShape words manner.shape × IsFlag words (codes "more") manner.more
 
 -- the files are named, and none is read yet
 pub record IsAuditArgs (words : List Row) (audit_args : AuditArgs) : Type 0 where

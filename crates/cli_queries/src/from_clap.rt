@@ -227,6 +227,7 @@ impl Matched<'_, '_> {
                 Detail::Each
             },
             shape: self.shape(),
+            more: self.says(MORE),
         })
     }
 

@@ -490,7 +490,7 @@ const WHO_WORDS: [Word; 10] = [
     BY_RELEASE,
 ];
 
-const AUDIT_WORDS: [Word; 7] = [
+const AUDIT_WORDS: [Word; 8] = [
     Word {
         name: Name::Own(AUTH),
         value: "FILE",
@@ -523,7 +523,15 @@ const AUDIT_WORDS: [Word; 7] = [
         needs: None,
         bars: &[],
     },
-    PRINTS_JSON,
+    Word {
+        name: Name::Own(MORE),
+        value: "",
+        help: "Prints further lines, for where the MDS of Ceph 16, 18 or 20 decides otherwise of what a client holds",
+        kind: Kind::Flag,
+        needs: None,
+        bars: &[],
+    },
+    JSON_OR_MORE,
     FILE_SYSTEM,
     BY_RELEASE,
 ];

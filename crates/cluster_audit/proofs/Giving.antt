@@ -1,7 +1,7 @@
 -- What is given by one after the other.
-use Rattle.std.proofs.Common.{◌≡◌, ℕ, ◌+◌, ◌<◌, ◌≤◌, List, [], ◌∷◌, ◌++◌, length, drop, get_or, sym, ap, subst, ◌∙◌, append_assoc}
+use Rattle.std.proofs.Common.{◌≡◌, ℕ, ◌+◌, ◌<◌, ◌≤◌, List, [], ◌∷◌, ◌++◌, length, drop, get_or, refl, sym, ap, subst, ◌∙◌, append_assoc}
 use Rattle.std.proofs.lemmas.List.{append-nil, drop_all, drop_more}
-use Rattle.cluster_audit.specs.Audited.{Give}
+use Rattle.cluster_audit.specs.Audited.{AddsTo, Give}
 use Rattle.cluster_audit.specs.Audited.Give.{no_more, one_more}
 
 module _ {X Y : Type 0} (Gives : X → List Y → Type 0) (xs : List X) where
@@ -20,3 +20,23 @@ module _ {X Y : Type 0} (Gives : X → List Y → Type 0) (xs : List X) where
   all_given i before end begun =
       subst (λ (t : List Y). Give Gives xs t) (append-nil before)
       (begun [] (subst (λ (ys : List X). Give Gives ys []) (sym (drop_all i xs end)) no_more))
+
+-- ---- in texts
+
+module _ (P : List ℕ → Type 0) (old new : List ℕ) where
+  pub nothing_given : new ≡ old → P [] → AddsTo P old new
+  nothing_given same holds = ([], same ∙ sym (append-nil old), holds)
+
+  pub given_too : (Q : List ℕ → Type 0) → ((text : List ℕ) → Q text → P text) → AddsTo Q old new → AddsTo P old new
+  given_too Q also adds = (adds.0, adds.1, also adds.0 adds.2)
+
+module _ {X : Type 0} (Gives : X → List ℕ → Type 0) (xs : List X) where
+  pub one_added : (i : ℕ) (x : X) (first before after : List ℕ) → i < length xs → x ≡ get_or xs i x → AddsTo (IsGiven Gives xs i) first before → AddsTo (Gives x) before after → AddsTo (IsGiven Gives xs (i + 1)) first after
+  one_added i x first before after inside is begun adds = (
+    begun.0 ++ adds.0,
+    adds.1 ∙ ap (λ (t : List ℕ). t ++ adds.0) begun.1 ∙ append_assoc first begun.0 adds.0,
+    one_given Gives xs i x begun.0 (begun.0 ++ adds.0) adds.0 inside is begun.2 refl adds.2,
+  )
+
+  pub all_added : (i : ℕ) (first after : List ℕ) → length xs ≤ i → AddsTo (IsGiven Gives xs i) first after → AddsTo (Give Gives xs) first after
+  all_added i first after end begun = (begun.0, begun.1, all_given Gives xs i begun.0 end begun.2)

@@ -2,6 +2,7 @@ pub mod Reports
 pub mod Saying
 pub mod Noting
 pub mod Giving
+pub mod Beside
 pub mod Words
 pub mod Denials
 pub mod Spaces

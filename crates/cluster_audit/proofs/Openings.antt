@@ -9,6 +9,7 @@ use Rattle.capbits.specs.Text.{text_of}
 use Rattle.capspec.specs.declared.fault.SpecFaultKind.{SpecFaultKind}
 use Rattle.capspec.specs.declared.fault.SpecFaultKind.TheVariants as kinds
 use Rattle.capgrant.specs.declared.access.Access.{Access}
+use Rattle.capgrant.specs.Access.{access_word}
 use Rattle.release_rules.specs.declared.release.Release.{Release}
 use Rattle.release_rules.specs.declared.rule.Rule.{Rule}
 use Rattle.release_rules.specs.Releases.{version_of}
@@ -21,7 +22,7 @@ use Rattle.texts.proofs.Quoted.{first_byte}
 use Rattle.cluster_audit.specs.declared.findings.Denial.{Denial}
 use Rattle.cluster_audit.specs.declared.notes.Detail.TheVariants.{Each, Groups}
 use Rattle.cluster_audit.specs.Lines.{holder_text, on_inode, place_text, told_text, why_text}
-use Rattle.cluster_audit.specs.Reported.{rules_told}
+use Rattle.cluster_audit.specs.Reported.{access_of, rules_told}
 use Rattle.cluster_audit.proofs.Denials.{has_told}
 use Rattle.cluster_audit.proofs.Words.{digit_first, is_digit}
 use Rattle.cluster_audit.proofs.Spaces.{behind, past_caps, past_number, past_plain, past_quoted}
@@ -65,12 +66,15 @@ word_6 text = behind (behind (behind (behind (behind (behind text)))))
 -- ---- the kind
 
 -- of a line that begins with a path: by its fourth word, and its seventh
+abbrev by_session : ℕ → ℕ
+by_session last = cond (last == 109) 1 (cond (last == 105) 8 (cond (last == 77) 14 3))
+
 abbrev by_place : ℕ → ℕ → ℕ → ℕ
-by_place third last other = cond (third == 48) (cond (last == 109) 1 (cond (last == 105) 8 3)) (cond (third == 104) 3 other)
+by_place third last other = cond (third == 48) (by_session last) (cond (third == 104) 3 other)
 
 -- of one whose second word is no number
 abbrev by_word : ℕ → ℕ → ℕ → ℕ
-by_word first colon other = cond (first == 104) 4 (cond (first == 110) 6 (cond (first == 103) (cond (colon == 58) 7 2) (cond (first == 97) 2 (cond (first == 102) 10 other))))
+by_word first colon other = cond (first == 104) 4 (cond (first == 110) 6 (cond (first == 103) (cond (colon == 58) 7 2) (cond (first == 97) 2 (cond (first == 102) 10 (cond (first == 119) 15 (cond (first == 114) 15 other))))))
 
 -- of one whose second word is a number
 abbrev by_number : ℕ → ℕ → ℕ → ℕ → ℕ
@@ -102,7 +106,7 @@ at_word : (text : List ℕ) (first colon third : ℕ) → leading (behind text) 
 unfolding kind_of
 at_word text first colon third one mark three no_number no_holds =
     let kind : ℕ = by_word first colon (number_of text) in
-    let paths : ℕ = cond (leading (word_6 text) == 109) 1 (cond (leading (word_6 text) == 105) 8 3) in
+    let paths : ℕ = by_session (leading (word_6 text)) in
     let looked : kind_of text ≡ cond (opening text == 47) (by_place third (leading (word_6 text)) kind) kind =
     λ i. cond (opening text == 47) (by_place (three i) (leading (word_6 text)) (by_word (one i) (mark i) (number_of text))) (by_word (one i) (mark i) (number_of text)) in
     let no_place : cond (opening text == 47) (by_place third (leading (word_6 text)) kind) kind ≡ cond (opening text == 47) kind kind =
@@ -117,20 +121,25 @@ at_number text n s small no_path is =
 
 -- ---- lines whose first word is a path
 
+module _ (path : List (List ℕ)) (n : ℕ) (small : n < 2 ^ 64) where
+  -- in a session that tells a name, and behind it some words
+  in_session : (client rest : List ℕ) (last : ℕ) → leading (behind (behind rest)) ≡ last → kind_of (quoted (path_text path) ++ 32 ∷ (quoted client ++ 32 ∷ (codes "session " ++ (decimal n ++ 32 ∷ rest)))) ≡ by_session last
+  in_session client rest last is =
+      let session : List ℕ = codes "session " ++ (decimal n ++ 32 ∷ rest) in
+      let text : List ℕ = quoted (path_text path) ++ 32 ∷ (quoted client ++ 32 ∷ session) in
+      let one : behind text ≡ quoted client ++ 32 ∷ session = past_quoted (path_text path) (32 ∷ (quoted client ++ 32 ∷ session)) in
+      let two : behind (behind text) ≡ session = ap behind one ∙ past_quoted client (32 ∷ session) in
+      let three : word_3 text ≡ decimal n ++ 32 ∷ rest = ap behind two in
+      let four : behind (word_3 text) ≡ rest = ap behind three ∙ past_number n (32 ∷ rest) small in
+      let six : word_6 text ≡ behind (behind rest) = ap (λ (w : List ℕ). behind (behind w)) four in
+      at_place text 48 last (opening_path path (32 ∷ (quoted client ++ 32 ∷ session))) (ap leading three ∙ leading_digit n (32 ∷ rest) small) (ap leading six ∙ is)
+
 module _ (path : List (List ℕ)) (n : ℕ) (small : n < 2 ^ 64) (s : List ℕ) where
   abbrev held_by : List ℕ
   held_by = decimal n ++ 32 ∷ (codes "holds " ++ s)
 
-  -- in a session that tells a name
-  named : (client : List ℕ) (last : ℕ) → leading (behind s) ≡ last → kind_of (quoted (path_text path) ++ 32 ∷ (quoted client ++ 32 ∷ (codes "session " ++ held_by))) ≡ cond (last == 109) 1 (cond (last == 105) 8 3)
-  named client last is =
-      let text : List ℕ = quoted (path_text path) ++ 32 ∷ (quoted client ++ 32 ∷ (codes "session " ++ held_by)) in
-      let one : behind text ≡ quoted client ++ 32 ∷ (codes "session " ++ held_by) = past_quoted (path_text path) (32 ∷ (quoted client ++ 32 ∷ (codes "session " ++ held_by))) in
-      let two : behind (behind text) ≡ codes "session " ++ held_by = ap behind one ∙ past_quoted client (32 ∷ (codes "session " ++ held_by)) in
-      let three : word_3 text ≡ held_by = ap behind two in
-      let four : behind (word_3 text) ≡ codes "holds " ++ s = ap behind three ∙ past_number n (32 ∷ (codes "holds " ++ s)) small in
-      let six : word_6 text ≡ behind s = ap (λ (w : List ℕ). behind (behind w)) four in
-      at_place text 48 last (opening_path path (32 ∷ (quoted client ++ 32 ∷ (codes "session " ++ held_by)))) (ap leading three ∙ leading_digit n (32 ∷ (codes "holds " ++ s)) small) (ap leading six ∙ is)
+  named : (client : List ℕ) (last : ℕ) → leading (behind s) ≡ last → kind_of (quoted (path_text path) ++ 32 ∷ (quoted client ++ 32 ∷ (codes "session " ++ held_by))) ≡ by_session last
+  named client last is = in_session path n small client (codes "holds " ++ s) last is
 
   -- and in one that tells none
   unnamed : kind_of (quoted (path_text path) ++ 32 ∷ (codes "client " ++ held_by)) ≡ 3
@@ -169,7 +178,26 @@ on_path p m n (Some c) caps s small =
     ∙ ap (λ (w : List ℕ). kind_of (quoted (path_text p) ++ 32 ∷ w)) (append_assoc (quoted c) (codes " session " ++ decimal n) (codes " holds " ++ rest))
     ∙ named p n small rest c 98 (ap leading (past_caps caps (codes " beside " ++ s)))
 
+-- what the MDS of releases says of it otherwise
+pub of_otherwise : (p : List (List ℕ)) (c : List ℕ) (n : ℕ) (writes : Bool) (s : List ℕ) → n < 2 ^ 64 → kind_of (place_text p c n ++ 32 ∷ (access_word (access_of writes) ++ (codes ": the MDS of Ceph " ++ s))) ≡ 14
+of_otherwise p c n true s small =
+    let rest : List ℕ = codes "write: the MDS of Ceph " ++ s in
+    ap kind_of (place_is p c n (32 ∷ rest)) ∙ in_session p n small c rest 77 refl
+of_otherwise p c n false s small =
+    let rest : List ℕ = codes "read: the MDS of Ceph " ++ s in
+    ap kind_of (place_is p c n (32 ∷ rest)) ∙ in_session p n small c rest 77 refl
+
 -- ---- groups
+
+behind_client : (client rest : List ℕ) (first : ℕ) → leading rest ≡ first → leading (behind (behind rest)) ≡ 77 → kind_of (quoted client ++ 32 ∷ rest) ≡ by_word first (seventh (behind (quoted client ++ 32 ∷ rest))) (number_of (quoted client ++ 32 ∷ rest))
+behind_client client rest first is third =
+    let text : List ℕ = quoted client ++ 32 ∷ rest in
+    let one : behind text ≡ rest = past_quoted client (32 ∷ rest) in
+    at_word text first (seventh (behind text)) 77 (ap leading one ∙ is) refl (ap (λ (w : List ℕ). leading (behind (behind w))) one ∙ third) refl refl
+
+pub of_otherwise_group : (c : List ℕ) (writes : Bool) (s : List ℕ) → kind_of (quoted c ++ 32 ∷ (access_word (access_of writes) ++ (codes ": the MDS of Ceph " ++ s))) ≡ 15
+of_otherwise_group c true s = behind_client c (codes "write: the MDS of Ceph " ++ s) 119 refl refl
+of_otherwise_group c false s = behind_client c (codes "read: the MDS of Ceph " ++ s) 114 refl refl
 
 grant_first : (one rule n space word more s : List ℕ) → (((((one ++ rule) ++ n) ++ space) ++ word) ++ more) ++ s ≡ one ++ (rule ++ (n ++ (space ++ (word ++ (more ++ s)))))
 grant_first one rule n space word more s = simp append_assoc

@@ -1,24 +1,30 @@
 -- Two lines of an audit that are equal tell the same, and so do two texts, line by line.
-use Rattle.std.proofs.Common.{◌≡◌, ℕ, ◌<◌, ◌^◌, Bool, true, false, Option, Some, None, List, [], ◌∷◌, ◌++◌, ◌+◌, drop, refl, sym, ap, ◌∙◌, append_assoc, arith}
-use Rattle.std.specs.Prelude.{All, codes}
+use Rattle.std.proofs.Common.{◌≡◌, ℕ, ◌<◌, ◌^◌, Bool, true, false, Option, Some, None, List, [], ◌∷◌, ◌++◌, ◌+◌, drop, suc, length, ◌==◌, refl, sym, ap, ◌∙◌, append_assoc, arith}
+use Rattle.std.specs.Prelude.{All, codes, if◌then◌else◌}
 use Rattle.std.specs.Fmt.{decimal}
 use Rattle.std.specs.List.{flat_map}
-use Rattle.std.proofs.lemmas.Bool.{eqb-false}
+use Rattle.std.proofs.lemmas.Bool.{eqb-false, ne_eqb}
 use Rattle.std.proofs.lemmas.List.{append_cancel_left}
 use Rattle.std.proofs.lemmas.List.Elements.{All-head, All-tail}
 use Rattle.capbits.specs.Caps.{Caps}
 use Rattle.capbits.specs.Sets.{minus}
 use Rattle.capbits.specs.Text.{text_of}
+use Rattle.capgrant.specs.Access.{access_word}
 use Rattle.capspec.specs.declared.fault.SpecFaultKind.{SpecFaultKind}
 use Rattle.capspec.specs.declared.fault.SpecFaultKind.TheVariants as kinds
 use Rattle.cluster_audit.specs.declared.findings.Finding.{Finding}
 use Rattle.cluster_audit.specs.declared.conflict.Conflict.{Conflict}
 use Rattle.texts.specs.Explaining.{path_text}
+use Rattle.texts.specs.Mds.{reason_text, said, said_line, said_word}
 use Rattle.texts.specs.Quoting.{quoted}
+use Rattle.release_rules.specs.declared.beside.Otherwise.{Otherwise}
 use Rattle.release_rules.specs.declared.release.Release.{Release}
 use Rattle.release_rules.specs.declared.release.Release.TheVariants.{Pacific, Reef, Tentacle}
 use Rattle.release_rules.specs.Releases.{version_of}
 use Rattle.texts.specs.Standing.{fault_word, unread_line}
+use Rattle.texts.proofs.Beside.{Named, bare_text}
+use Rattle.texts.proofs.Beside.{one_line as one_said_line}
+use Rattle.texts.proofs.Beside.Named.{each, eighteen, first_two, last_two, sixteen, twenty}
 use Rattle.texts.proofs.Clients.{one_fault}
 use Rattle.texts.proofs.Quoted.{bare, before_a_line_feed, before_a_space, before_word, clash, first_byte}
 use Rattle.cluster_audit.specs.declared.grants_by.Unreadable.{Unreadable}
@@ -28,12 +34,12 @@ use Rattle.cluster_audit.specs.declared.unjudged.Unknown.{Unknown}
 use Rattle.cluster_audit.specs.declared.unjudged.Unknown.TheVariants.{Address, Spelling}
 use Rattle.cluster_audit.specs.declared.summary.Counts.{Counts}
 use Rattle.cluster_audit.specs.Lines.{holder_text, on_inode, place_text, revoked_text, unjudged_text, unknown_text, who_text, why_text}
-use Rattle.cluster_audit.specs.Reported.{AllTellTheSame, AreCounts, HasNumbers, IsOneClient, IsOneInode, Line, TellTheSame, line_text}
+use Rattle.cluster_audit.specs.Reported.{AllTellTheSame, AreCounts, HasNumbers, IsOneClient, IsOneInode, Line, Releases, TellTheSame, access_of, line_text, releases_text}
 use Rattle.cluster_audit.specs.Reported as reported
 use Rattle.cluster_audit.proofs.Denials.{one_why}
 use Rattle.cluster_audit.proofs.Words.{before_why, is_digit, no_number, number, one_caps, one_revoked}
 use Rattle.cluster_audit.proofs.Spaces.{behind, past_quoted}
-use Rattle.cluster_audit.proofs.Openings.{kind_of, none, of_conflict_text, of_group, of_held, of_nothing, of_pathless, of_renamed, of_summary, of_unknown, of_unlinked, of_unlisted}
+use Rattle.cluster_audit.proofs.Openings.{kind_of, none, of_conflict_text, of_group, of_held, of_nothing, of_otherwise, of_otherwise_group, of_pathless, of_renamed, of_summary, of_unknown, of_unlinked, of_unlisted}
 use Rattle.cluster_audit.proofs.Openings.{of_unnamed, of_unread, of_unread_there, on_number, on_path, opening, opening_path, place_is, plain_fault}
 
 -- ---- a line and what stands behind it, part by part
@@ -71,6 +77,12 @@ abbrev wrong_at : Unreadable → ℕ
 wrong_at (unreadable.Own fault) = fault.at
 wrong_at (unreadable.There release at) = at
 
+abbrev from_release : Releases → Otherwise → List ℕ → List ℕ
+from_release r o s = codes "the MDS of Ceph " ++ (releases_text r ++ (said (Some o) ++ s))
+
+abbrev from_access : Bool → Releases → Otherwise → List ℕ → List ℕ
+from_access a r o s = access_word (access_of a) ++ (codes ": " ++ from_release r o s)
+
 abbrev laid : Line → List ℕ → List ℕ
 laid (reported.held k p c n i x f u) s = place_text p c n ++ (codes " holds " ++ (text_of i ++ (codes ", may not " ++ (text_of f.caps ++ from_beyond_caps x f u s))))
 laid (reported.group c f n) s = why_text f.missing f.denial ++ 32 ∷ (quoted c ++ (codes ": " ++ (decimal n ++ 10 ∷ s)))
@@ -83,6 +95,8 @@ laid (reported.unlisted c) s = quoted c ++ (codes ": no entry in the auth list\n
 laid (reported.unread c w) s = quoted c ++ (codes ": grants: " ++ (wrong_word w ++ (codes " at " ++ (decimal (wrong_at w) ++ 10 ∷ s))))
 laid (reported.unknown w k p c n) s = place_text p c n ++ (codes " holds what is " ++ (unknown_text w ++ s))
 laid (reported.pathless k c n i) s = codes "inode " ++ (decimal k ++ (codes ": no path: " ++ (who_text c n ++ (codes " holds " ++ (quoted i ++ 10 ∷ s)))))
+laid (reported.otherwise p c n a r o) s = place_text p c n ++ 32 ∷ from_access a r o s
+laid (reported.otherwise_group c a r o) s = quoted c ++ 32 ∷ from_access a r o s
 laid reported.nothing s = codes "nothing found\n" ++ s
 laid (reported.summary n) s = codes "inodes " ++ (decimal n.inodes ++ from_entries n s)
 
@@ -120,6 +134,23 @@ unknown_apart p w s = simp append_assoc
 pathless_apart : (k w i s : List ℕ) → (codes "inode " ++ (k ++ (codes ": no path: " ++ (w ++ (codes " holds " ++ (i ++ codes "\n")))))) ++ s ≡ codes "inode " ++ (k ++ (codes ": no path: " ++ (w ++ (codes " holds " ++ (i ++ 10 ∷ s)))))
 pathless_apart k w i s = simp append_assoc
 
+said_apart : (h a r w s : List ℕ) → ((h ++ (codes " " ++ (a ++ codes ": "))) ++ (codes "the MDS of Ceph " ++ (r ++ w))) ++ s ≡ h ++ 32 ∷ (a ++ (codes ": " ++ (codes "the MDS of Ceph " ++ (r ++ (w ++ s)))))
+said_apart h a r w s = simp append_assoc
+
+-- something is said of them
+some_text : (byte : ℕ) (more text : List ℕ) → (if length (byte ∷ more) == 0 then [] else text) ≡ text
+some_text byte more text = ap (λ (none : Bool). if none then [] else text) (ne_eqb (length (byte ∷ more)) 0 (λ (e : suc (length more) ≡ 0). omega (arith, e)))
+
+some_words : (front releases : List ℕ) (allows : Bool) (rest : List ℕ) → said_line front releases (said_word allows ++ rest) ≡ front ++ (codes "the MDS of Ceph " ++ (releases ++ (said_word allows ++ rest)))
+some_words front releases true rest = some_text 32 (drop 1 (said_word true) ++ rest) (front ++ (codes "the MDS of Ceph " ++ (releases ++ (said_word true ++ rest))))
+some_words front releases false rest = some_text 32 (drop 1 (said_word false) ++ rest) (front ++ (codes "the MDS of Ceph " ++ (releases ++ (said_word false ++ rest))))
+
+otherwise_apart : (h : List ℕ) (a : Bool) (r : Releases) (o : Otherwise) (s : List ℕ)
+    → said_line (h ++ (codes " " ++ (access_word (access_of a) ++ codes ": "))) (releases_text r) (said (Some o)) ++ s ≡ h ++ 32 ∷ from_access a r o s
+otherwise_apart h a r o s =
+    ap (λ (w : List ℕ). w ++ s) (some_words (h ++ (codes " " ++ (access_word (access_of a) ++ codes ": "))) (releases_text r) o.allows (reason_text o.reason ++ (codes " (grant " ++ (decimal o.grant ++ codes ")\n"))))
+    ∙ said_apart h (access_word (access_of a)) (releases_text r) (said (Some o)) s
+
 summary_apart : (a b c d e f s : List ℕ)
     → (codes "inodes " ++ a ++ codes ", entries " ++ b ++ codes ", sessions " ++ c ++ codes ", held beyond " ++ d ++ codes ", conflicts " ++ e ++ codes ", not judged " ++ f ++ codes "\n") ++ s
     ≡ codes "inodes " ++ (a ++ (codes ", entries " ++ (b ++ (codes ", sessions " ++ (c ++ (codes ", held beyond " ++ (d ++ (codes ", conflicts " ++ (e ++ (codes ", not judged " ++ (f ++ 10 ∷ s)))))))))))
@@ -138,6 +169,8 @@ laid_out (reported.unread c (unreadable.Own f)) s = unread_apart (quoted c) (fau
 laid_out (reported.unread c (unreadable.There r at)) s = not_read_apart (quoted c) (version_of r) (decimal at) s
 laid_out (reported.unknown w k p c n) s = unknown_apart (place_text p c n) (unknown_text w) s
 laid_out (reported.pathless k c n i) s = pathless_apart (decimal k) (who_text c n) (quoted i) s
+laid_out (reported.otherwise p c n a r o) s = otherwise_apart (place_text p c n) a r o s
+laid_out (reported.otherwise_group c a r o) s = otherwise_apart (quoted c) a r o s
 laid_out reported.nothing s = refl
 laid_out (reported.summary n) s = summary_apart (decimal n.inodes) (decimal n.entries) (decimal n.sessions) (decimal n.held_beyond) (decimal n.conflicts) (decimal n.not_judged) s
 
@@ -157,6 +190,8 @@ kind reported.nothing = 10
 kind (reported.summary n) = 11
 kind (reported.renamed n c a) = 12
 kind (reported.unlinked n p) = 13
+kind (reported.otherwise p c n a r o) = 14
+kind (reported.otherwise_group c a r o) = 15
 
 some_kind : (l : Line) → 0 < kind l
 some_kind reported.nothing = omega arith
@@ -178,6 +213,8 @@ kind_is (reported.unread c (unreadable.Own f)) s small = of_unread c f.kind (dec
 kind_is (reported.unread c (unreadable.There r at)) s small = of_unread_there c r (codes " at " ++ (decimal at ++ 10 ∷ s))
 kind_is (reported.unknown w k p c n) s small = of_unknown p c n (unknown_text w ++ s) small
 kind_is (reported.pathless k c n i) s small = of_pathless k (who_text c n ++ (codes " holds " ++ (quoted i ++ 10 ∷ s))) small.0
+kind_is (reported.otherwise p c n a r o) s small = of_otherwise p c n a (releases_text r ++ (said (Some o) ++ s)) small.0
+kind_is (reported.otherwise_group c a r o) s small = of_otherwise_group c a (releases_text r ++ (said (Some o) ++ s))
 kind_is reported.nothing s small = of_nothing s
 kind_is (reported.summary n) s small = of_summary n.inodes (from_entries n s) small.inodes
 
@@ -447,6 +484,71 @@ one_pathless k l c d m n i j s t small also same =
     let issued = before_a_line_feed i j s t (append_cancel_left (codes " holds ") (quoted i ++ 10 ∷ s) (quoted j ++ 10 ∷ t) who.2) in
     ((inode.0, name, who.0, issued.0), issued.1)
 
+-- the releases as the texts of `explain` and `who` name them
+abbrev named : Releases → Named
+named reported.all_three = each
+named reported.first_two = first_two
+named reported.last_two = last_two
+named reported.sixteen = sixteen
+named reported.eighteen = eighteen
+named reported.twenty = twenty
+
+abbrev unnamed : Named → Releases
+unnamed each = reported.all_three
+unnamed first_two = reported.first_two
+unnamed last_two = reported.last_two
+unnamed sixteen = reported.sixteen
+unnamed eighteen = reported.eighteen
+unnamed twenty = reported.twenty
+
+back : (r : Releases) → unnamed (named r) ≡ r
+back reported.all_three = refl
+back reported.first_two = refl
+back reported.last_two = refl
+back reported.sixteen = refl
+back reported.eighteen = refl
+back reported.twenty = refl
+
+as_named : (r : Releases) (o : Otherwise) (s : List ℕ) → bare_text (named r, o) ++ s ≡ from_release r o s
+as_named reported.all_three o s = append_assoc (codes "the MDS of Ceph 16, 18 and 20") (said (Some o)) s
+as_named reported.first_two o s = append_assoc (codes "the MDS of Ceph 16 and 18") (said (Some o)) s
+as_named reported.last_two o s = append_assoc (codes "the MDS of Ceph 18 and 20") (said (Some o)) s
+as_named reported.sixteen o s = append_assoc (codes "the MDS of Ceph 16") (said (Some o)) s
+as_named reported.eighteen o s = append_assoc (codes "the MDS of Ceph 18") (said (Some o)) s
+as_named reported.twenty o s = append_assoc (codes "the MDS of Ceph 20") (said (Some o)) s
+
+one_release : (r q : Releases) (o e : Otherwise) (s t : List ℕ) → o.grant < 2 ^ 64 → e.grant < 2 ^ 64 → from_release r o s ≡ from_release q e t → (r ≡ q) × (o ≡ e) × (s ≡ t)
+one_release r q o e s t small also same =
+    let both = one_said_line (named r, o) (named q, e) s t small also (as_named r o s ∙ same ∙ sym (as_named q e t)) in
+    let names : named r ≡ named q = ap (λ (l : Named × Otherwise). l.0) both.0 in
+    (sym (back r) ∙ ap unnamed names ∙ back q, ap (λ (l : Named × Otherwise). l.1) both.0, both.1)
+
+one_access : (a b : Bool) (s t : List ℕ) → access_word (access_of a) ++ s ≡ access_word (access_of b) ++ t → (a ≡ b) × (s ≡ t)
+one_access true true s t same = (refl, append_cancel_left (codes "write") s t same)
+one_access true false s t same = clash 114 119 (omega arith) (sym (ap first_byte same))
+one_access false true s t same = clash 114 119 (omega arith) (ap first_byte same)
+one_access false false s t same = (refl, append_cancel_left (codes "read") s t same)
+
+one_answer : (a b : Bool) (r q : Releases) (o e : Otherwise) (s t : List ℕ) → o.grant < 2 ^ 64 → e.grant < 2 ^ 64 → from_access a r o s ≡ from_access b q e t → (a ≡ b) × (r ≡ q) × (o ≡ e) × (s ≡ t)
+one_answer a b r q o e s t small also same =
+    let access = one_access a b (codes ": " ++ from_release r o s) (codes ": " ++ from_release q e t) same in
+    let release = one_release r q o e s t small also (append_cancel_left (codes ": ") (from_release r o s) (from_release q e t) access.1) in
+    (access.0, release.0, release.1, release.2)
+
+one_otherwise : (p q : List (List ℕ)) (c d : List ℕ) (m n : ℕ) (a b : Bool) (r k : Releases) (o e : Otherwise) (s t : List ℕ) → HasNumbers (reported.otherwise p c m a r o) → HasNumbers (reported.otherwise q d n b k e)
+    → laid (reported.otherwise p c m a r o) s ≡ laid (reported.otherwise q d n b k e) t → TellTheSame (reported.otherwise p c m a r o) (reported.otherwise q d n b k e) × (s ≡ t)
+one_otherwise p q c d m n a b r k o e s t small also same =
+    let place = one_place p q c d m n (32 ∷ from_access a r o s) (32 ∷ from_access b k e t) small.0 also.0 refl refl same in
+    let answer = one_answer a b r k o e s t small.1 also.1 (append_cancel_left (codes " ") (from_access a r o s) (from_access b k e t) place.3) in
+    ((place.0, place.1, place.2, answer.0, answer.1, answer.2), answer.3)
+
+one_otherwise_group : (c d : List ℕ) (a b : Bool) (r k : Releases) (o e : Otherwise) (s t : List ℕ) → o.grant < 2 ^ 64 → e.grant < 2 ^ 64
+    → laid (reported.otherwise_group c a r o) s ≡ laid (reported.otherwise_group d b k e) t → TellTheSame (reported.otherwise_group c a r o) (reported.otherwise_group d b k e) × (s ≡ t)
+one_otherwise_group c d a b r k o e s t small also same =
+    let name = before_a_space c d (from_access a r o s) (from_access b k e t) same in
+    let answer = one_answer a b r k o e s t small also name.1 in
+    ((name.0, answer.0, answer.1, answer.2), answer.3)
+
 one_summary : (m n : Counts) (s t : List ℕ) → AreCounts m → AreCounts n → laid (reported.summary m) s ≡ laid (reported.summary n) t → (m ≡ n) × (s ≡ t)
 one_summary m n s t small also same =
     let a = behind_word (codes "inodes ") m.inodes n.inodes (from_entries m s) (from_entries n t) small.inodes also.inodes refl refl same in
@@ -479,6 +581,8 @@ of_kind (reported.unlisted c) (reported.unlisted d) s t e small also same = one_
 of_kind (reported.unread c v) (reported.unread d w) s t e small also same = one_unread c d v w s t small also same
 of_kind (reported.unknown a k p c m) (reported.unknown b l q d n) s t e small also same = one_unknown a b p q c d m n s t small also same
 of_kind (reported.pathless k c m i) (reported.pathless l d n j) s t e small also same = one_pathless k l c d m n i j s t small also same
+of_kind (reported.otherwise p c m a r o) (reported.otherwise q d n b k f) s t e small also same = one_otherwise p q c d m n a b r k o f s t small also same
+of_kind (reported.otherwise_group c a r o) (reported.otherwise_group d b k f) s t e small also same = one_otherwise_group c d a b r k o f s t small also same
 of_kind reported.nothing reported.nothing s t e small also same = (tt, append_cancel_left (codes "nothing found\n") s t same)
 of_kind (reported.summary m) (reported.summary n) s t e small also same = one_summary m n s t small also same
 of_kind a b s t e small also same = absurd (eqb-false (kind a) (kind b) refl e)

@@ -142,14 +142,16 @@ data_of value = or_null (λ (d : Data). d) value
 kind_in : Data → ℕ
 kind_in d = by_word (text_in (value_at (codes "kind") d)) (text_in (value_at (codes "kind") (value_at (codes "each") d)))
 
-kind_is : (l : Line) → kind_in (data_of (value_of l)) ≡ kind l
+kind_is : (l : Line) → HasBytes l → kind_in (data_of (value_of l)) ≡ kind l
 unfolding kind_in
-kind_is (reported.held k p c n i x f u) = refl
-kind_is (reported.unread c (unreadable.Own f)) = refl
-kind_is (reported.unread c (unreadable.There r at)) = refl
-kind_is (reported.unknown Spelling k p c n) = refl
-kind_is (reported.unknown Address k p c n) = refl
-kind_is l = refl
+kind_is (reported.held k p c n i x f u) fit = refl
+kind_is (reported.unread c (unreadable.Own f)) fit = refl
+kind_is (reported.unread c (unreadable.There r at)) fit = refl
+kind_is (reported.unknown Spelling k p c n) fit = refl
+kind_is (reported.unknown Address k p c n) fit = refl
+kind_is (reported.otherwise p c n a r o) fit = absurd fit
+kind_is (reported.otherwise_group c a r o) fit = absurd fit
+kind_is l fit = refl
 
 -- ---- two objects of one kind
 
@@ -297,9 +299,11 @@ of_kind (reported.unlisted c) (reported.unlisted d) e fit fits same = (one_spell
 of_kind (reported.unread c v) (reported.unread d w) e fit fits same = (one_unread c d v w fit fits same, tt)
 of_kind (reported.unknown a k p c m) (reported.unknown b l q d n) e fit fits same = one_unknown a b k l p q c d m n fit fits same
 of_kind (reported.pathless k c m i) (reported.pathless l d n j) e fit fits same = (one_pathless k l c d m n i j fit fits same, tt)
+of_kind (reported.otherwise p c m a r o) (reported.otherwise q d n b k f) e fit fits same = absurd fit
+of_kind (reported.otherwise_group c a r o) (reported.otherwise_group d b k f) e fit fits same = absurd fit
 of_kind reported.nothing reported.nothing e fit fits same = (tt, tt)
 of_kind (reported.summary m) (reported.summary n) e fit fits same = (one_summary m n same, tt)
 of_kind a b e fit fits same = absurd (eqb-false (kind a) (kind b) refl e)
 
 pub one_object : (a b : Line) → HasBytes a → HasBytes b → value_of a ≡ value_of b → TellTheSame a b × TellMore a b
-one_object a b fit fits same = of_kind a b (sym (kind_is a) ∙ ap (λ (v : Option Data). kind_in (data_of v)) same ∙ kind_is b) fit fits same
+one_object a b fit fits same = of_kind a b (sym (kind_is a fit) ∙ ap (λ (v : Option Data). kind_in (data_of v)) same ∙ kind_is b fits) fit fits same

@@ -1,5 +1,5 @@
 -- What clients of a cluster hold and may not.
-use Rattle.std.specs.Prelude.{◌≡◌, ◌⊎◌, ◌==◌, ◌||◌, ℕ, Bool, false, not, is_some, if◌then◌else◌, Option, Some, None, option_and_then, option_map, unwrap_or, Ok, List, [], ◌∷◌, ◌++◌, length, find}
+use Rattle.std.specs.Prelude.{◌≡◌, ◌⊎◌, ◌==◌, ◌||◌, ℕ, Bool, false, is_some, if◌then◌else◌, Option, Some, None, option_and_then, option_map, unwrap_or, Ok, List, [], ◌∷◌, ◌++◌, length, find}
 use Rattle.std.specs.Option.{option_or}
 use Rattle.std.specs.Prelude.{bytes_eq}
 use Rattle.std.specs.FinMap as map
@@ -9,7 +9,7 @@ use Rattle.capbits.specs.Text.{text_of}
 use Rattle.ceph_input.specs.Auth.{IsFaultOf, Named, auth_of}
 use Rattle.ceph_input.specs.Values.{IsFaultIn}
 use Rattle.ceph_input.specs.Sessions.{sessions_of}
-use Rattle.ceph_input.specs.Dump.{Dump, Held, Listed, PathMap}
+use Rattle.ceph_input.specs.Dump.{Held, Listed, PathMap}
 use Rattle.cluster_audit.specs.declared.findings.Finding.{Finding}
 use Rattle.cluster_audit.specs.declared.conflict.Conflict.{Conflict}
 use Rattle.cluster_audit.specs.declared.conflict.Holding.{Holding}
@@ -24,16 +24,11 @@ use Rattle.cluster_audit.specs.GrantsBy.{IsReadBy, IsUnreadBy}
 use Rattle.cluster_audit.specs.MdsFindings.{IsBeyondBy}
 use Rattle.cluster_audit.specs.Known.{AreKnown, Known}
 use Rattle.texts.specs.declared.shape.Shape.{Shape}
-use Rattle.texts.specs.Shapes.{nothing_in}
 use Rattle.cluster_audit.specs.declared.fault.HeldFault.{HeldFault}
 use Rattle.cluster_audit.specs.declared.fault.HeldFault.TheVariants.{Auth, Sessions}
-use Rattle.cluster_audit.specs.declared.notes.Detail.{Detail}
-use Rattle.cluster_audit.specs.declared.notes.Detail.TheVariants.{Each, Groups}
 use Rattle.cluster_audit.specs.declared.notes.Manner.{Manner}
 use Rattle.cluster_audit.specs.declared.notes.Notes.{Notes}
-use Rattle.cluster_audit.specs.Order.{AreCounted, AreInOrder}
-use Rattle.cluster_audit.specs.Summary.{counts_of}
-use Rattle.cluster_audit.specs.Shaped.{alias_in, conflict_in, counts_in, found_in, pathless_in, unknown_in, unlinked_in, unlisted_in, unnamed_in}
+use Rattle.cluster_audit.specs.Shaped.{alias_in, conflict_in, found_in, pathless_in, unknown_in, unlinked_in, unlisted_in, unnamed_in}
 use Rattle.cluster_audit.specs.Shaped.{unreadable_in}
 
 -- ---- who it is
@@ -65,6 +60,10 @@ session_of sessions number = find (λ s. s.number == number) sessions
 -- the name of its client, if there is one and it tells any
 abbrev pub name_of : List Known → ℕ → Option (List ℕ)
 name_of sessions number = option_and_then (λ s. s.client) (session_of sessions number)
+
+-- the entry that the auth list has of its client
+abbrev pub entity_of : List Named → List Known → ℕ → Option Named
+entity_of entities sessions number = option_and_then (λ client. find (λ e. bytes_eq e.name client) entities) (name_of sessions number)
 
 -- whether its client is known not to check itself
 abbrev pub is_unchecked : List Known → ℕ → Bool
@@ -190,33 +189,6 @@ says_of_prior shape paths it = prior_text shape it.number it.prior ((length it.h
 
 abbrev pub remarks : Shape → List Known → PathMap → List Listed → List ℕ
 remarks shape sessions paths inodes = flat_map (says_of_name shape) sessions ++ flat_map (says_of_prior shape paths) inodes
-
--- ---- the audit
-
--- lines in order, or lines that are alike counted
-abbrev pub AreListed : Detail → Shape → List ℕ → List ℕ → Type 0
-AreListed Each shape text listed = AreInOrder text listed
-AreListed Groups shape text listed = AreCounted shape text listed
-
--- what is found beyond grants and in conflict, in order or counted, and behind it, in order, what is remarked, and what is not known
-abbrev pub AreLines : Manner → List ℕ → List ℕ → List ℕ → List ℕ → List ℕ → Type 0
-AreLines m beyond conflicts remarked unknown lines = (first : List ℕ) × (others : List ℕ) × (last : List ℕ)
-    × AreListed m.detail m.shape (beyond ++ conflicts) first × AreInOrder remarked others × AreInOrder unknown last × (lines ≡ (first ++ others) ++ last)
-
--- these lines are told, or that nothing is found where there are none, and behind them the last one
-abbrev pub IsReported : Shape → List ℕ → List ℕ → List ℕ → Bool → Type 0
-IsReported shape lines last text found = (found ≡ not (length lines == 0)) × (text ≡ (if found then lines else nothing_in shape) ++ last)
-
--- what is told of the inodes of a tree
-pub record IsReport (fs : List ℕ) (known : Clients) (seen : Dump) (text : List ℕ) (found : Bool) : Type 0 where
-  pub beyond : List ℕ
-  pub conflicts : List ℕ
-  pub unknown : List ℕ
-  pub lines : List ℕ
-  pub reports : AreReports (SaysOfInode fs known seen.paths) seen.inodes beyond unknown
-  pub paired : Give (SaysOfPairs known.manner known.sessions seen.paths) seen.inodes conflicts
-  pub ordered : AreLines known.manner beyond conflicts (remarks known.manner.shape known.sessions seen.paths seen.inodes) unknown lines
-  pub reported : IsReported known.manner.shape lines (counts_in known.manner.shape (counts_of known.sessions seen.inodes beyond conflicts unknown)) text found
 
 -- ---- the texts
 

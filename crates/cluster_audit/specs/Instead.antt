@@ -6,10 +6,10 @@ use Rattle.texts.specs.Explaining.{path_text}
 use Rattle.texts.specs.Lines.{HasNumber}
 use Rattle.cluster_audit.specs.Objects.{alias_value, alike_value, conflict_group_value, conflict_value, counts_value, found_value, group_value}
 use Rattle.cluster_audit.specs.Objects.{pathless_value, unknown_value, unlinked_value, unlisted_value, unnamed_value, unreadable_value}
-use Rattle.cluster_audit.specs.Reported.{Line, TellTheSame, conflict, conflict_group, group, held, nothing, pathless, renamed, summary, unknown}
+use Rattle.cluster_audit.specs.Reported.{Line, TellTheSame, conflict, conflict_group, group, held, nothing, otherwise, otherwise_group, pathless, renamed, summary, unknown}
 use Rattle.cluster_audit.specs.Reported.{unlinked, unlisted, unnamed, unread}
 
--- the value of the object, which stands in the place of each line but the one that says that nothing is found
+-- the value of the object, which stands in the place of each line but those on releases and the one that says that nothing is found
 abbrev pub value_of : Line → Option Data
 value_of (held number path client session issued pending found unjudged) = Some (found_value number path client session issued pending found unjudged)
 value_of (group client found count) = Some (group_value count (alike_value client found))
@@ -22,10 +22,12 @@ value_of (unlisted client) = Some (unlisted_value client)
 value_of (unread client what) = Some (unreadable_value client what)
 value_of (unknown what number path client session) = Some (unknown_value what number path client session)
 value_of (pathless number client session issued) = Some (pathless_value number client session issued)
+value_of (otherwise path client session writes releases o) = None
+value_of (otherwise_group client writes releases o) = None
 value_of nothing = None
 value_of (summary n) = Some (counts_value n)
 
--- its texts are bytes, and the access that is missing has 32 bits where it has a number
+-- its texts are bytes, and the access that is missing has 32 bits where it has a number; it is no line on releases
 abbrev pub HasBytes : Line → Type 0
 HasBytes (held number path client session issued pending f unjudged) = IsBytes (path_text path) × IsBytes client × IfSome f.missing HasNumber
 HasBytes (group client f count) = IsBytes client
@@ -37,6 +39,8 @@ HasBytes (unlisted client) = IsBytes client
 HasBytes (unread client what) = IsBytes client
 HasBytes (unknown what number path client session) = IsBytes (path_text path) × IsBytes client
 HasBytes (pathless number client session issued) = IsBytes client × IsBytes issued
+HasBytes (otherwise path client session writes releases o) = ⊥
+HasBytes (otherwise_group client writes releases o) = ⊥
 HasBytes line = Unit {0}
 
 -- what no line tells: the number of an inode that has a path, and which access is missing

@@ -12,3 +12,5 @@ pub mod Findings
 pub mod MdsFindings
 pub mod GrantsBy
 pub mod Conflicts
+pub mod Otherwise
+pub mod Report

@@ -1,11 +1,13 @@
 -- What a line of an audit tells.
-use Rattle.std.specs.Prelude.{◌≡◌, ℕ, ◌<◌, ◌^◌, Bool, Option, Some, None, List, [], ◌∷◌, All, map}
+use Rattle.std.specs.Prelude.{◌≡◌, ℕ, ◌<◌, ◌^◌, Bool, codes, if◌then◌else◌, Option, Some, None, List, [], ◌∷◌, All, map}
 use Rattle.std.specs.List.{flat_map}
 use Rattle.capbits.specs.Caps.{Caps}
 use Rattle.capbits.specs.Sets.{minus}
 use Rattle.capgrant.specs.declared.access.Access.{Access}
+use Rattle.capgrant.specs.declared.access.Access.TheVariants.{Read, Write}
 use Rattle.capgrant.specs.declared.rule.Rule.{Rule as OwnRule}
 use Rattle.capgrant.specs.declared.rule.Rule.TheVariants as own_rule
+use Rattle.release_rules.specs.declared.beside.Otherwise.{Otherwise}
 use Rattle.release_rules.specs.declared.rule.Rule.{Rule}
 use Rattle.release_rules.specs.declared.rule.Rule.TheVariants as rule
 use Rattle.cluster_audit.specs.declared.findings.Denial.{Denial}
@@ -16,6 +18,7 @@ use Rattle.cluster_audit.specs.declared.grants_by.Unreadable.TheVariants as unre
 use Rattle.cluster_audit.specs.declared.unjudged.Unknown.{Unknown}
 use Rattle.cluster_audit.specs.declared.conflict.Conflict.{Conflict}
 use Rattle.texts.specs.Explaining.{path_text}
+use Rattle.texts.specs.Mds.{said, said_line}
 use Rattle.texts.specs.declared.shape.Shape.TheVariants.{Lines}
 use Rattle.texts.specs.Shapes.{nothing_in}
 use Rattle.cluster_audit.specs.declared.notes.Detail.TheVariants.{Each, Groups}
@@ -23,7 +26,29 @@ use Rattle.cluster_audit.specs.declared.summary.Counts.{Counts}
 use Rattle.cluster_audit.specs.Findings.{rules_there}
 use Rattle.cluster_audit.specs.Lines.{alias_line, conflict_line, conflict_text, counts_line, group_text, held_line, pathless_line, unknown_line, unlinked_line, unlisted_line}
 use Rattle.cluster_audit.specs.Lines.{unnamed_line, unreadable_line}
+use Rattle.cluster_audit.specs.Otherwise.{access_front}
 use Rattle.cluster_audit.specs.Shaped.{counted_in}
+
+-- the releases that a line names
+pub data Releases : Type 0 where
+  all_three : Releases
+  first_two : Releases
+  last_two : Releases
+  sixteen : Releases
+  eighteen : Releases
+  twenty : Releases
+
+abbrev pub releases_text : Releases → List ℕ
+releases_text all_three = codes "16, 18 and 20"
+releases_text first_two = codes "16 and 18"
+releases_text last_two = codes "18 and 20"
+releases_text sixteen = codes "16"
+releases_text eighteen = codes "18"
+releases_text twenty = codes "20"
+
+-- to write, or to read
+abbrev pub access_of : Bool → Access
+access_of writes = if writes then Write else Read
 
 -- a line of an audit, by what its text is made of
 pub data Line : Type 0 where
@@ -45,6 +70,10 @@ pub data Line : Type 0 where
   unread : List ℕ → Unreadable → Line
   unknown : Unknown → ℕ → List (List ℕ) → List ℕ → ℕ → Line
   pathless : ℕ → List ℕ → ℕ → List ℕ → Line
+  -- of what is at this path, to this client in this session, whether to write it or to read it, the MDS of these releases says otherwise
+  otherwise : List (List ℕ) → List ℕ → ℕ → Bool → Releases → Otherwise → Line
+  -- the same of a client alone
+  otherwise_group : List ℕ → Bool → Releases → Otherwise → Line
   nothing : Line
   summary : Counts → Line
 
@@ -60,6 +89,8 @@ line_text (unlisted client) = unlisted_line client
 line_text (unread client what) = unreadable_line client what
 line_text (unknown what number path client session) = unknown_line what path client session
 line_text (pathless number client session issued) = pathless_line number client session issued
+line_text (otherwise path client session writes releases o) = said_line (access_front Each path client session (access_of writes)) (releases_text releases) (said (Some o))
+line_text (otherwise_group client writes releases o) = said_line (access_front Groups [] client 0 (access_of writes)) (releases_text releases) (said (Some o))
 line_text nothing = nothing_in Lines
 line_text (summary n) = counts_line n
 
@@ -86,6 +117,8 @@ HasNumbers (unread client (unreadable.Own fault)) = fault.at < 2 ^ 64
 HasNumbers (unread client (unreadable.There release at)) = at < 2 ^ 64
 HasNumbers (unknown what number path client session) = session < 2 ^ 64
 HasNumbers (pathless number client session issued) = (number < 2 ^ 64) × (session < 2 ^ 64)
+HasNumbers (otherwise path client session writes releases o) = (session < 2 ^ 64) × (o.grant < 2 ^ 64)
+HasNumbers (otherwise_group client writes releases o) = o.grant < 2 ^ 64
 HasNumbers nothing = Unit {0}
 HasNumbers (summary n) = AreCounts n
 
@@ -141,6 +174,8 @@ TellTheSame (unlisted c) (unlisted d) = c ≡ d
 TellTheSame (unread c f) (unread d g) = (c ≡ d) × (f ≡ g)
 TellTheSame (unknown a k p c m) (unknown b l q d n) = (a ≡ b) × (path_text p ≡ path_text q) × (c ≡ d) × (m ≡ n)
 TellTheSame (pathless k c m i) (pathless l d n j) = (k ≡ l) × (c ≡ d) × (m ≡ n) × (i ≡ j)
+TellTheSame (otherwise p c m a r o) (otherwise q d n b s e) = (path_text p ≡ path_text q) × (c ≡ d) × (m ≡ n) × (a ≡ b) × (r ≡ s) × (o ≡ e)
+TellTheSame (otherwise_group c a r o) (otherwise_group d b s e) = (c ≡ d) × (a ≡ b) × (r ≡ s) × (o ≡ e)
 TellTheSame nothing nothing = Unit {0}
 TellTheSame (summary m) (summary n) = m ≡ n
 TellTheSame a b = ⊥

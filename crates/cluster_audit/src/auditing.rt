@@ -1,14 +1,16 @@
 //! From the clients and the tree of a cluster to what is held and may not be.
-ghost use Rattle.std.specs.Prelude.{◌≡◌, IfOk, OnOk, option_map};
+ghost use Rattle.std.specs.Prelude.{◌≡◌, IfOk, OnOk};
 ghost use Rattle.ceph_input.specs.Dump.{dump};
-ghost use Rattle.cluster_audit.specs.Audited.{Adds, AreLines, AreReports, IsReport, IsReported, SaysOf, SaysOfInode, clients_of, path_of, remarks};
+ghost use Rattle.cluster_audit.specs.Audited.{Adds, AreReports, SaysOf, SaysOfInode, clients_of, remarks};
+ghost use Rattle.cluster_audit.specs.Report.{AreLines, IsReport, IsReported};
 
 use crate::aliases::alias_lines;
 use crate::clients::ClusterClients;
 use crate::holders::{note_holder, print_pathless_holders};
-use crate::inode::Inode;
+use crate::inode::{Inode, path_of};
 use crate::notes::{Detail, Manner, Notes, Report};
 use crate::order::{counted, in_order};
+use crate::otherwise::otherwise_lines;
 use crate::pairs::conflict_lines;
 use crate::summary::summary_line;
 use crate::unlinked::unlinked_lines;
@@ -21,7 +23,8 @@ use texts::Shape;
 /// What the clients of a cluster hold of the inodes of this file system, by the tree that a metadata server has in memory, and nobody
 /// behind their keys is permitted, and what two of them hold that no two may hold together; behind that which clients call themselves
 /// otherwise than their keys are named, and which inodes were unlinked; and behind that what could not be judged. Each line stands once,
-/// in the order of the lines' bytes, which is first that of paths, or those that are alike are counted. A line sums it up.
+/// in the order of the lines' bytes, which is first that of paths, or those that are alike are counted. Behind them stand, where more is
+/// told, lines for what the MDS of a release judges otherwise. A line sums it up.
 pub fn audit_report(
     alloc: Global,
     manner: Manner,
@@ -42,7 +45,8 @@ pub fn audit_report(
         conflicts.as_slice(),
         remarked.as_slice(),
     )?;
-    let last = summary_line(
+    let mut last = otherwise_lines(alloc, manner, fs, clients, inodes, &tree.paths)?;
+    let summary = summary_line(
         alloc,
         manner.shape,
         clients.sessions(),
@@ -50,6 +54,7 @@ pub fn audit_report(
         &notes,
         conflicts.as_slice(),
     )?;
+    last.extend_from_slice(summary.as_slice())?;
     let report = report_of(manner.shape, lines, last.as_slice())?;
     Ok(report)
 }
@@ -93,7 +98,7 @@ fn remarks(
     Ok(text)
 }
 
-// These lines, or that nothing is found where there are none, and the last line.
+// These lines, or that nothing is found where there are none, and the last ones.
 fn report_of(shape: Shape, mut lines: Vec<u8>, last: &[u8]) -> Result<Report, AllocError>
     ensures { IfOk result (λ report. IsReported shape lines.items last.now report.text.items report.found) }
 {
@@ -158,16 +163,6 @@ fn note_inode(
         &place,
         inode.holders(),
     )
-}
-
-// The path that leads to an inode, or that led to it before it was unlinked.
-fn path_of<'a>(paths: &'a Numbered<TreePath>, inode: &'a TreeInode) -> Option<&'a TreePath>
-    ensures { option_map (λ path. path.now) result ≡ path_of paths.now inode.now }
-{
-    match paths.get(inode.number()) {
-        Some(path) => Some(path),
-        None => inode.prior_path(),
-    }
 }
 
 // Appends what is said of those who hold something of the inode of this number.

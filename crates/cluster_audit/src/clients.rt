@@ -36,7 +36,7 @@ impl Model for ClusterClients {
 impl ClusterClients {
     ghost use Rattle.std.specs.Prelude.{IfOk, IfErr, find, bytes_eq};
     ghost use Rattle.ceph_input.specs.FsNames.{AreFsNames};
-    ghost use Rattle.cluster_audit.specs.Audited.{AreClients, IsFaultOfClients, is_unchecked, name_of};
+    ghost use Rattle.cluster_audit.specs.Audited.{AreClients, IsFaultOfClients, entity_of, is_unchecked, name_of};
 
     /// The clients that two texts mean: the auth list, as `ceph auth ls -f json` prints it, and the sessions, as `ceph tell mds.N
     /// session ls` does. Who calls itself `x` is `client.x`, or `mgr.x` where the list has that alone. The fault is that of the first
@@ -89,6 +89,13 @@ impl ClusterClients {
         ensures { option_map (λ e. e.now) result ≡ find (λ e. bytes_eq e.name name.now) self.now.entities }
     {
         self.auth.find(name)
+    }
+
+    // The entry that it has of the client in the session of this number.
+    pub(crate) fn entity_in(&self, session: u64) -> Option<&Entity>
+        ensures { option_map (λ e. e.now) result ≡ entity_of self.now.entities self.now.sessions session }
+    {
+        self.entity_of(self.name_of(session)?)
     }
 }
 

@@ -110,7 +110,8 @@ pub(crate) fn least_access(caps: CapSet) -> Option<Access>
     }
 }
 
-fn has_any(caps: CapSet, of: &[Cap]) -> bool
+// Whether some of these caps are in the set.
+pub(crate) fn has_any(caps: CapSet, of: &[Cap]) -> bool
     ensures { result ≡ has_any caps of.now }
 {
     of.iter().any(|cap| caps.has(*cap))

@@ -1,10 +1,14 @@
 //! An inode as the rules see it.
 
+ghost use Rattle.std.specs.Prelude.{◌≡◌, option_map};
 ghost use Rattle.policy_analysis.specs.Standing.{AnswersOf};
+ghost use Rattle.cluster_audit.specs.Audited.{path_of};
 ghost use Rattle.cluster_audit.specs.Callers.{wanted_of};
 
+use capbits::Numbered;
 use capgrant::{Access, Attr};
 use capspec::{FsName, Grants, TreePath};
+use ceph_input::TreeInode;
 use policy_analysis::{Standing, Wanted};
 use std::marker::Model;
 
@@ -52,5 +56,18 @@ impl Inode<'_> {
             access,
         };
         wanted.standing(grants, &Some(*self.attr))
+    }
+}
+
+// The path that leads to an inode, or that led to it before it was unlinked.
+pub(crate) fn path_of<'a>(
+    paths: &'a Numbered<TreePath>,
+    inode: &'a TreeInode,
+) -> Option<&'a TreePath>
+    ensures { option_map (λ path. path.now) result ≡ path_of paths.now inode.now }
+{
+    match paths.get(inode.number()) {
+        Some(path) => Some(path),
+        None => inode.prior_path(),
     }
 }

@@ -24,6 +24,7 @@ mod mds_findings;
 mod notes;
 mod objects;
 mod order;
+mod otherwise;
 mod pairs;
 mod summary;
 mod unjudged;

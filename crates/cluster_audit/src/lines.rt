@@ -50,7 +50,7 @@ pub(crate) fn print_group(
 }
 
 // Appends where something is held and by whom.
-fn print_place<'x>(
+pub(crate) fn print_place<'x>(
     text: &mut Vec<u8>,
     path: &'x [&'x [u8]],
     client: &'x [u8],

@@ -56,6 +56,8 @@ pub struct Manner {
     pub detail: Detail,
     /// In which shape.
     pub shape: Shape,
+    /// Whether lines by this server's rules are followed by others, for where the MDS of a release judges otherwise.
+    pub more: bool,
 }
 
 /// What an audit tells.

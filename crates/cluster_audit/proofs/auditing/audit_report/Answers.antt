@@ -7,8 +7,10 @@ returns c = record {
   conflicts = c.in_ok-conflicts.conflicts.items;
   unknown = c.in_ok-notes.notes.unknown.items;
   lines = c.in_ok-lines.lines.items;
+  others = c.in_ok-last.last.items;
   reports = search rules;
   paired = search rules;
   ordered = search rules;
+  told = search rules;
   reported = search rules;
 }
