@@ -21,11 +21,11 @@ use locktable::LockState;
 use policy_view::ViewChange;
 use sessiontab::{Session, Sessions};
 use std::alloc::{AllocError, Global};
+use std::fmt;
 use std::marker::Model;
 use step_acts::history::{count_row, make_room};
 
 /// The state of a metadata server's policy, with the history that led to it.
-#[derive(Debug)]
 pub struct Core {
     world: World,
     rows: Vec<Row>,
@@ -48,6 +48,18 @@ impl Model for Core {
     ghost view = { λ c. core_value c.world c.rows.items c.max_rows c.output.changes.items };
 
     ghost invariant = { λ c. IsLegalCore (core_value c.world c.rows.items c.max_rows c.output.changes.items) × AreCounted c.counts c.rows.items };
+}
+
+/// It shows the rows, and nothing of how they are counted.
+impl fmt::Debug for Core {
+    fn fmt<W: fmt::Write>(&self, f: &mut fmt::Formatter<W>) -> fmt::Result {
+        f.debug_struct("Core")
+            .field("world", &self.world)
+            .field("rows", &self.rows)
+            .field("max_rows", &self.max_rows)
+            .field("output", &self.output)
+            .finish()
+    }
 }
 
 // Not derived: so the proof of a function that drops one has a single call there, and no step for each part.
