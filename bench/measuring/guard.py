@@ -37,7 +37,7 @@ BESIDE = (100, 10000)
 # How many clients cache the file whose size is changed.
 CACHING = 10
 # How many rows of another pass stand before the first call of one.
-BEHIND = (1000, 16000)
+BEHIND = (1100, 16000)
 # How many questions the thread that asks has in the two runs whose difference is counted.
 ASKED = (1000, 5000)
 INSTRUCTIONS, MEMORY = "instructions", "kB"
